@@ -5,7 +5,7 @@
     dev/calls.py --check        the calls that may want memory and that no test names, nor the page docs/verify/calls.md;
                                 status 1 where there is one
 
-A call is public where the root of its crate hands out its name or its type. Laws (`laws` of a crate) take nothing and have
+A call is public where the root of its crate hands out its name or its type. Laws (modules `laws` and `.._laws` of a crate) take nothing and have
 empty bodies: their clauses are the laws, and they are listed with them.
 """
 from __future__ import annotations

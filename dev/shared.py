@@ -27,7 +27,7 @@ APART = re.compile(r"[\s(){}\[\],;.]+")
 CITED = re.compile(r"`(\w+)/(?:specs/)?(\w+):([\w\-◌]+)`")
 KEYWORDS = ("let", "in", "where", "|")
 
-Key = tuple[str, str]  # a module, as `texts.proofs.Judged`, and a name in it
+Key = tuple[str, str]  # a module, as `text_base.proofs.Judged`, and a name in it
 T = TypeVar("T", bound=Any)
 
 

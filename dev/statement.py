@@ -34,7 +34,21 @@ COMMANDS = (
     "bridge_tool/OneFile:row_of",
     "bridge_tool/Verify:claim_row_of",
 )
-ARITHMETIC = ("fractions", "exact_numbers/Fraction", "exact_numbers/Values")  # what numbers are
+ARITHMETIC = {  # what numbers are
+    f"exact_numbers/{file}"
+    for file in (
+        "Divisors",
+        "Fits",
+        "FloorLemmas",
+        "Fraction",
+        "LowestTerms",
+        "Functions",
+        "LowestLemmas",
+        "Rational",
+        "Sums",
+        "Values",
+    )
+}
 # names that stand for two things in the statement of a theorem: never more
 TWO_SENSES = {
     "what a yes of an MPS file says": 2,
@@ -97,7 +111,7 @@ def is_proof(it: Definition) -> bool:
 
 def is_arithmetic(module: str) -> bool:
     """Whether a file says what numbers are."""
-    return module.split(".")[0] in ARITHMETIC or place_of(module) in ARITHMETIC
+    return place_of(module) in ARITHMETIC
 
 
 def upwards(below: dict[T, set[T]]) -> list[T]:

@@ -3,9 +3,9 @@ use Rattle.std.proofs.Common.{◌≡◌, ◌∙◌, ℕ, suc, ◌+◌, ◌<◌, 
 use Rattle.std.specs.Prelude.{option_map, position}
 use Rattle.std.specs.List.{range_with_len}
 use Rattle.std.specs.Str.{bytes_eq}
-use Rattle.texts.specs.Names.{place_of}
-use Rattle.name_lists.specs.Names.{index_named}
-use Rattle.name_lists.proofs.NumeralLemmas.{position-cons}
+use Rattle.text_base.specs.Names.{place_of}
+use Rattle.mps_model.specs.Names.{index_named}
+use Rattle.mps_model.proofs.NumeralLemmas.{position-cons}
 use Rattle.answer_file.proofs.PlaceLemmas.{bytes_eq-comm}
 
 -- a test of the numbers from a on that tells which names are the text

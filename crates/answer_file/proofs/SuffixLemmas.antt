@@ -10,11 +10,11 @@ use Rattle.std.proofs.lemmas.Slice.Eq.{bytes_eq-Decides}
 use Rattle.exact_numbers.proofs.NumberLemmas.{first_of_both, second_of_both}
 use Rattle.nl_model.specs.File.{Term}
 use Rattle.nl_model.specs.declared.suffix.Suffix.{Suffix}
-use Rattle.shared_parts.specs.SuffixKinds.{has_same_objects}
+use Rattle.nl_model.specs.SuffixKinds.{has_same_objects}
 use Rattle.answer_file.specs.Entries.{SuffixLine}
 use Rattle.answer_file.specs.Suffixes.{is_same_suffix, first_lines, values_like, suffix_like, suffixes_of}
 use Rattle.answer_file.specs.Steps.{new_suffix, with_line, with_suffix_line}
-use Rattle.shared_parts.proofs.ObjectLemmas.{same_objects-class, same_objects-comm, same_objects-self}
+use Rattle.nl_model.proofs.ObjectLemmas.{same_objects-class, same_objects-comm, same_objects-self}
 use Rattle.answer_file.proofs.PlaceLemmas.{bytes_eq-comm}
 
 -- ---- lines of one suffix
@@ -149,5 +149,11 @@ last-one lines x false e = ap (λ s. s ∷ []) (like-new lines x e)
 pub suffixes-more : (lines : List SuffixLine) (x : SuffixLine) → suffixes_of (lines ++ x ∷ []) ≡ with_suffix_line (suffixes_of lines) x
 unfolding suffixes_of
 suffixes-more lines x =
-    rw (firsts-more lines x, map-append (suffix_like (lines ++ x ∷ [])) (first_lines lines) (cond (list_any (like x) lines) [] (x ∷ [])), last-one lines x (list_any (like x) lines) refl, ← some-first x lines)
+    rw (
+      firsts-more lines x,
+      map-append (suffix_like (lines ++ x ∷ [])) (first_lines lines)
+          (cond (list_any (like x) lines) [] (x ∷ [])),
+      last-one lines x (list_any (like x) lines) refl,
+      ← some-first x lines,
+    )
     (sym (stepped lines x (first_lines lines) (firsts-apart lines)))

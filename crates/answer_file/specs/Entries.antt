@@ -2,10 +2,10 @@
 use Rattle.std.specs.Prelude.{ℕ, Bool, true, false, nat_lt, List, length, drop, filter, Option, Some, None, option_map, if◌then◌else◌, codes}
 use Rattle.std.specs.List.{filter_map}
 use Rattle.std.specs.Str.{bytes_eq}
-use Rattle.texts.specs.Words.{row_of, without_blanks, word_at}
+use Rattle.text_base.specs.Words.{row_of, without_blanks, word_at}
 use Rattle.exact_numbers.specs.declared.dec.Dec.{Dec}
 use Rattle.exact_numbers.specs.Numbers.{whole_of, dec_of}
-use Rattle.shared_parts.specs.SuffixKinds.{objects_of}
+use Rattle.nl_model.specs.SuffixKinds.{objects_of}
 use Rattle.answer_file.specs.declared.keyword.Keyword.{Keyword}
 use Rattle.answer_file.specs.declared.keyword.Keyword.TheVariants.{Status, Message, Sign, Objno, Col, Row, Suffix}
 use Rattle.answer_file.specs.declared.target.Target.{Target}

@@ -4,15 +4,15 @@ use Rattle.std.specs.Prelude.{◌≡◌, ℕ, ◌^◌, ◌/◌, ◌%◌, ◌==�
 use Rattle.std.specs.Option.{option_map_or}
 use Rattle.std.specs.List.{filter_map}
 use Rattle.std.specs.Str.{bytes_eq}
-use Rattle.texts.specs.Judged.{Rules, first_reason}
-use Rattle.texts.specs.Names.{is_name}
-use Rattle.texts.specs.Words.{row_of, word_at}
-use Rattle.texts.specs.declared.lines.LineFault.{LineFault}
-use Rattle.texts.specs.declared.lines.LineFault.TheVariants.{LineTooLong as LongLine, InputTooLong as LongInput}
+use Rattle.text_base.specs.Judged.{Rules, first_reason}
+use Rattle.text_base.specs.Names.{is_name}
+use Rattle.text_base.specs.Words.{row_of, word_at}
+use Rattle.text_base.specs.declared.lines.LineFault.{LineFault}
+use Rattle.text_base.specs.declared.lines.LineFault.TheVariants.{LineTooLong as LongLine, InputTooLong as LongInput}
 use Rattle.exact_numbers.specs.declared.dec.Dec.{Dec}
 use Rattle.exact_numbers.specs.Numbers.{dec_of, is_whole}
 use Rattle.nl_model.specs.declared.suffix.Suffix.{Suffix as SuffixOf}
-use Rattle.shared_parts.specs.SuffixKinds.{objects_of, wants_whole}
+use Rattle.nl_model.specs.SuffixKinds.{objects_of, wants_whole}
 use Rattle.answer_file.specs.declared.keyword.Keyword.{Keyword}
 use Rattle.answer_file.specs.declared.keyword.Keyword.TheVariants.{Status, Message, Sign, Objno, Col, Row, Suffix}
 use Rattle.answer_file.specs.declared.fault.AnswerReason.{AnswerReason}

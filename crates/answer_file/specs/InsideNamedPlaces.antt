@@ -3,9 +3,9 @@ use Rattle.std.specs.Prelude.{◌≡◌, ℕ, ◌≤◌, ◌^◌, List, [], ◌�
 use Rattle.std.specs.Global.{Vec}
 use Rattle.std.specs.Str.{bytes_eq}
 use Rattle.nl_model.specs.declared.suffix.Suffix.{Suffix}
-use Rattle.shared_parts.specs.declared.suffix_kinds.Objects.{Objects}
-use Rattle.shared_parts.specs.declared.suffix_kinds.Objects.TheVariants.{Variables, Constraints, Objectives, Problem}
-use Rattle.shared_parts.specs.SuffixKinds.{objects_of}
+use Rattle.nl_model.specs.declared.suffix_kinds.Objects.{Objects}
+use Rattle.nl_model.specs.declared.suffix_kinds.Objects.TheVariants.{Variables, Constraints, Objectives, Problem}
+use Rattle.nl_model.specs.SuffixKinds.{objects_of}
 use Rattle.answer_file.specs.Suffixes.{place_named, value_count}
 
 -- what stands beside the first entry of a name

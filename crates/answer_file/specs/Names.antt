@@ -4,9 +4,9 @@ use Rattle.std.specs.Fmt.{decimal}
 use Rattle.std.specs.Str.{bytes_eq}
 use Rattle.linear_program.specs.Intervals.{is_sided}
 use Rattle.nl_model.specs.File.{File}
-use Rattle.shared_parts.specs.declared.suffix_kinds.Objects.{Objects}
-use Rattle.shared_parts.specs.declared.suffix_kinds.Objects.TheVariants.{Variables, Constraints, Objectives, Problem}
-use Rattle.name_lists.specs.Names.{index_named}
+use Rattle.nl_model.specs.declared.suffix_kinds.Objects.{Objects}
+use Rattle.nl_model.specs.declared.suffix_kinds.Objects.TheVariants.{Variables, Constraints, Objectives, Problem}
+use Rattle.mps_model.specs.Names.{index_named}
 use Rattle.answer_file.specs.declared.naming.Naming.{Naming}
 use Rattle.answer_file.specs.declared.naming.Naming.TheVariants.{Numbered, Listed}
 use Rattle.answer_file.specs.declared.target.Target.{Target}

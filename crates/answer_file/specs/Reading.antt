@@ -1,9 +1,9 @@
 -- What reading an answer for a file answers, and what a reader of one stands for.
 use Rattle.std.specs.Prelude.{◌≡◌, ℕ, List, Option, Result}
-use Rattle.texts.specs.declared.stop.Stop.{Stop}
-use Rattle.texts.specs.declared.fault.TextFault.{TextFault}
-use Rattle.texts.specs.Lines.{LinesState}
-use Rattle.texts.specs.Reading.{Stands, Reads, IsRead}
+use Rattle.text_base.specs.declared.stop.Stop.{Stop}
+use Rattle.text_base.specs.declared.fault.TextFault.{TextFault}
+use Rattle.text_base.specs.Lines.{LinesState}
+use Rattle.text_base.specs.Reading.{Stands, Reads, IsRead}
 use Rattle.answer_file.specs.declared.fault.AnswerReason.{AnswerReason}
 use Rattle.answer_file.specs.Names.{Setting}
 use Rattle.answer_file.specs.Grammar.{Standing, AnswerValue, standing, answer_rules, SaysAnswer}

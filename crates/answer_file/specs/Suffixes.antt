@@ -6,7 +6,7 @@ use Rattle.exact_numbers.specs.declared.dec.Dec.{Dec}
 use Rattle.nl_model.specs.File.{Term}
 use Rattle.nl_model.specs.declared.suffix.Suffix.{Suffix}
 use Rattle.nl_model.specs.Rules.{is_suffix_of}
-use Rattle.shared_parts.specs.SuffixKinds.{has_same_objects, is_for_objectives}
+use Rattle.nl_model.specs.SuffixKinds.{has_same_objects, is_for_objectives}
 use Rattle.answer_file.specs.Entries.{SuffixLine}
 
 -- ---- values

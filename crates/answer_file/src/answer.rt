@@ -6,7 +6,7 @@ use crate::values::Values;
 use exact_numbers::Dec;
 use nl_model::Suffix;
 use std::marker::Model;
-use texts::TextLines;
+use text_base::TextLines;
 
 /// A solver's answer for a file.
 #[derive(Drop)]

@@ -7,7 +7,7 @@ use indexmap::IndexSet;
 use nl_model::{Suffix, Terms};
 use std::alloc::{AllocError, Global};
 use std::marker::Model;
-use texts::Name;
+use text_base::Name;
 
 /// A suffix, and the places that have a value.
 #[derive(Drop)]

@@ -1,17 +1,17 @@
 // Laws of answers.
 ghost use Rattle.std.specs.Prelude.{◌≡◌, ◌<◌, List, ℕ, ◌++◌, ◌∷◌, [], length, map, get_or, Some};
 ghost use Rattle.linear_program.specs.Intervals.{is_sided};
-ghost use Rattle.texts.specs.Judged.{HasOneOutcome};
-ghost use Rattle.texts.specs.Reading.{lines_of, last_of};
+ghost use Rattle.text_base.specs.Judged.{HasOneOutcome};
+ghost use Rattle.text_base.specs.Reading.{lines_of, last_of};
 ghost use Rattle.nl_model.specs.File.{File};
-ghost use Rattle.name_lists.specs.Names.{AreNames};
+ghost use Rattle.mps_model.specs.Names.{AreNames};
 ghost use Rattle.answer_file.specs.declared.target.Target.TheVariants.{Place};
 ghost use Rattle.answer_file.specs.Names.{Setting, named_setting, column_target, row_target, if_exported};
 ghost use Rattle.answer_file.specs.Grammar.{AnswerValue, SaysAnswer, answer_rules, standing};
 ghost use Rattle.answer_file.specs.Steps.{after};
 
 /// Each text is free of faults as an answer or has one first fault, and what it says is one answer.
-#[tactic(auto, using(texts::proofs::JudgedLemmas::one_outcome))]
+#[tactic(auto, using(text_base::proofs::JudgedLemmas::one_outcome))]
 pub fn one_reading()
     ensures outcome { (s : Setting) (text : List ℕ)
         → HasOneOutcome (answer_rules s) (lines_of text) (last_of text) }

@@ -1,9 +1,9 @@
 // How an answer names columns and rows.
 ghost use Rattle.std.specs.Prelude.{◌≡◌, ◌≤◌, ◌^◌};
 ghost use Rattle.answer_file.specs.Names.{NamesColumns, NamesRows, column_name, row_name, tied_column, tied_row};
-ghost use Rattle.name_lists.specs.Names.{index_named};
+ghost use Rattle.mps_model.specs.Names.{index_named};
 
-use name_lists::{NameList, numbered};
+use mps_model::{NameList, numbered};
 
 /// By a letter and the number, or by the names of two lists: of rows and of columns.
 #[derive(Drop)]

@@ -1,8 +1,8 @@
 // What the lines of an answer said so far, one method for each kind of line.
 ghost use Rattle.std.specs.Prelude.{◌≡◌, ◌<◌, length, [], None, Some, IfOk, IfErr, OnOk, true, option_map};
-ghost use Rattle.texts.specs.Judged.{Takes, first_reason};
-ghost use Rattle.texts.specs.Stopped.{IfFault};
-ghost use Rattle.texts.specs.Words.{row_of, texts, word_at};
+ghost use Rattle.text_base.specs.Judged.{Takes, first_reason};
+ghost use Rattle.text_base.specs.Stopped.{IfFault};
+ghost use Rattle.text_base.specs.Words.{row_of, texts, word_at};
 ghost use Rattle.exact_numbers.specs.Numbers.{dec_of};
 ghost use Rattle.answer_file.specs.declared.keyword.Keyword.{Keyword as KeywordOf};
 ghost use Rattle.answer_file.specs.Entries.{keyword_of, message_in, status_in, sign_in, objective_in, kind_in, at_place, suffix_in, entry_in, MessageLine, StatusIs, SignIs, ObjectiveIs, ColumnValue, RowValue};
@@ -23,7 +23,7 @@ use exact_numbers::{Dec, dec_of};
 use nl_model::objects_of;
 use std::alloc::{AllocError, Global};
 use std::marker::Model;
-use texts::{Row, Stop, TextLines, is_name, word_at};
+use text_base::{Row, Stop, TextLines, is_name, word_at};
 
 /// A message has at most so many lines.
 const MOST_MESSAGE_LINES: usize = 1 << 16;

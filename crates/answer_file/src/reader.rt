@@ -1,8 +1,8 @@
 // A reader of answers.
 ghost use Rattle.std.specs.Prelude.{◌≡◌, ◌++◌, List, ℕ, [], length, IfOk, IfErr, IfSome, OnOk, Err, None};
 ghost use Rattle.std.specs.Result.{result_err};
-ghost use Rattle.texts.specs.Stopped.{IfFault};
-ghost use Rattle.texts.specs.Reading.{HasFaultSoFar, IsFreeSoFar};
+ghost use Rattle.text_base.specs.Stopped.{IfFault};
+ghost use Rattle.text_base.specs.Reading.{HasFaultSoFar, IsFreeSoFar};
 ghost use Rattle.answer_file.specs.Names.{Setting, setting_of, named_setting};
 ghost use Rattle.answer_file.specs.Grammar.{answer_rules};
 ghost use Rattle.answer_file.specs.Reading.{IsFed, ReadsAnswer};
@@ -11,11 +11,11 @@ use crate::answer::Answer;
 use crate::fault::AnswerFault;
 use crate::grammar::AnswerGrammar;
 use crate::scope::Scope;
-use name_lists::NameList;
+use mps_model::NameList;
 use nl_model::NlFile;
 use std::alloc::{AllocError, Global};
 use std::marker::Model;
-use texts::{Reader, Stop, read};
+use text_base::{Reader, Stop, read};
 
 /// Reads an answer for a file, which comes in pieces.
 #[derive(Drop)]

@@ -5,7 +5,7 @@ ghost use Rattle.answer_file.specs.Names.{NamesColumns, NamesRows, setting_by, s
 
 use crate::naming::Naming;
 use crate::target::Target;
-use name_lists::NameList;
+use mps_model::NameList;
 use nl_model::{NlFile, Objects};
 use std::alloc::{AllocError, Global};
 use std::marker::Model;

@@ -1,7 +1,7 @@
 // A value of a suffix, judged.
 ghost use Rattle.std.specs.Prelude.{◌≡◌, ◌==◌, Some, IfOk, IfErr, option_copied};
-ghost use Rattle.texts.specs.Judged.{Takes, first_reason};
-ghost use Rattle.texts.specs.Names.{IsName};
+ghost use Rattle.text_base.specs.Judged.{Takes, first_reason};
+ghost use Rattle.text_base.specs.Names.{IsName};
 ghost use Rattle.exact_numbers.specs.Numbers.{is_whole};
 ghost use Rattle.answer_file.specs.Grammar.{object_tests, is_tied, differs, is_given_in, is_bad_value};
 ghost use Rattle.answer_file.specs.Suffixes.{suffix_at, suffix_named};
@@ -14,7 +14,7 @@ use crate::target::Target;
 use exact_numbers::Dec;
 use nl_model::wants_whole;
 use std::alloc::Global;
-use texts::Stop;
+use text_base::Stop;
 
 // Whether the suffix that came before differs in this from the kind.
 fn differs(group: Option<&Group>, kind: u8) -> bool

@@ -1,7 +1,7 @@
 // Suffixes in order of first appearance, found by name.
 ghost use Rattle.std.specs.Prelude.{◌≡◌, ◌<◌, ◌++◌, ◌∷◌, ◌^◌, [], map, length, slice_get, slice_set, false, IfOk, OnOk, Some, None, option_copied};
 ghost use Rattle.nl_model.specs.declared.suffix.Suffix.{Suffix as SuffixValue};
-ghost use Rattle.texts.specs.Names.{IsName};
+ghost use Rattle.text_base.specs.Names.{IsName};
 ghost use Rattle.answer_file.specs.Entries.{SuffixLine};
 ghost use Rattle.answer_file.specs.Suffixes.{place_named, suffix_at, value_count, with_objective};
 ghost use Rattle.answer_file.specs.Grammar.{is_full};
@@ -13,7 +13,7 @@ use exact_numbers::Dec;
 use nl_model::{Suffix, Terms, is_for_objectives};
 use std::alloc::{AllocError, Global};
 use std::marker::Model;
-use texts::Name;
+use text_base::Name;
 
 /// An answer has at most so many suffixes.
 const MOST_SUFFIXES: usize = 1 << 10;

@@ -1,11 +1,11 @@
 // Words of lines, and the numbers that they are.
 ghost use Rattle.std.specs.Prelude.{◌≡◌, drop, length, codes};
 ghost use Rattle.std.specs.Str.{bytes_eq};
-ghost use Rattle.texts.specs.Words.{texts, without_blanks, word_at};
+ghost use Rattle.text_base.specs.Words.{texts, without_blanks, word_at};
 ghost use Rattle.answer_file.specs.Entries.{number_below, status_in, sign_in, objective_in, kind_in, message_in};
 
 use exact_numbers::whole_of;
-use texts::{skip_blanks, word_at};
+use text_base::{skip_blanks, word_at};
 
 /// A status is below this number.
 const STATUS_LIMIT: u32 = 1000;

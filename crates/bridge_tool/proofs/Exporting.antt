@@ -1,35 +1,35 @@
 -- A file that folds and scales is exported as one text, which means what the file means.
 use Rattle.std.proofs.Common.{◌≡◌, inl, inr, ℕ, ◌<◌, ◌≤◌, false, List, Some, None, refl, sym, ap, subst, ◌∙◌, ◌+◌}
-use Rattle.program_meaning.specs.Linear.{variable_count, objective_value as program_objective, row_at as exported_row}
+use Rattle.linear_program.specs.Linear.{variable_count, objective_value as program_objective, row_at as exported_row}
 use Rattle.exact_numbers.specs.Values.{value_text}
 use Rattle.scaled_program.specs.Fits.{factor_of_row, factor_of_objective, IsScaledProgramOf}
 use Rattle.scaled_program.specs.Factor.{objective_numbers, row_numbers}
 use Rattle.scaled_program.specs.Program.{ScaledProgram}
-use Rattle.exported_program.specs.Program.{mps_of, program, tied_program}
+use Rattle.scaled_program.specs.ExportedProgram.{mps_of, program, tied_program}
 use Rattle.std.proofs.lemmas.Option.{same_Some}
-use Rattle.file_meaning.specs.FoldFaults.{fold_fault}
-use Rattle.file_meaning.specs.LinearFile.{linear_of, HasLines, IsFormedFile}
+use Rattle.nl_model.specs.FoldFaults.{fold_fault}
+use Rattle.nl_model.specs.LinearFile.{linear_of, HasLines, IsFormedFile}
 use Rattle.linear_program.specs.Programs.{LinearValue, linear_value}
 use Rattle.nl_model.specs.File.{File}
 use Rattle.nl_segments.specs.Grammar.{NlValue, said}
-use Rattle.scaling.specs.Exported.{scaled_as}
-use Rattle.scaling.specs.Scaled.{ScaledValue}
+use Rattle.row_scaling.specs.Exported.{scaled_as}
+use Rattle.row_scaling.specs.Scaled.{ScaledValue}
 use Rattle.command_parts.specs.Stages.{HasFolded, HasScaled, CanBeExported, CannotBeExported, fold_steps}
 use Rattle.mps_model.specs.Text.{mps_text_by}
 use Rattle.nl_segments.specs.Reader.{IsNl}
 use Rattle.bridge_tool.specs.Export.{ExportsAs, IsExported, IsExportMeant, IsSameProgram, IsTiedProgram, MeansTheFile}
 use Rattle.command_parts.specs.Refusal.{HasTextRefusal}
 use Rattle.command_core.proofs.SeveralFiles.{IsEither, IsLast, either_last}
-use Rattle.export_round_trip.specs.ReadAs.{IsReadAs}
-use Rattle.export_round_trip.proofs.ReadBack.{exported_back}
+use Rattle.round_trips.specs.ReadAs.{IsReadAs}
+use Rattle.round_trips.proofs.ReadBack.{exported_back}
 use Rattle.bridge_tool.proofs.FileLimits.{file_exportable}
-use Rattle.exported_program.proofs.Export.{same_points, same_objective, same_sense, tied_points, tied_objective, tied_sense}
+use Rattle.scaled_program.proofs.Export.{same_points, same_objective, same_sense, tied_points, tied_objective, tied_sense}
 use Rattle.scaled_program.proofs.Factor.{factor_above}
-use Rattle.file_meaning.proofs.Files.{count_lem, same_feasible, same_objective as same_value, same_sense as sense_of, linear_lem}
-use Rattle.file_meaning.proofs.Folding.{clean_has_lines}
-use Rattle.file_meaning.proofs.Formed.{file_formed}
+use Rattle.nl_model.proofs.Files.{count_lem, same_feasible, same_objective as same_value, same_sense as sense_of, linear_lem}
+use Rattle.nl_model.proofs.Folding.{clean_has_lines}
+use Rattle.nl_model.proofs.Formed.{file_formed}
 use Rattle.nl_model.specs.Rules.{IsFile}
-use Rattle.nl_round_trip.proofs.Rewriting.{writable}
+use Rattle.round_trips.proofs.Rewriting.{writable}
 use Rattle.command_parts.proofs.TextsRead.{nl_read}
 use Rattle.command_parts.proofs.ExportStages.{staged_or_not, one_reason, staged, one_program, a_program, staged_so, exports_so}
 
@@ -40,7 +40,9 @@ module _ (nl : NlValue) (k : ℕ) where
   one_text a b h j = h.written ∙ ap (λ p. mps_text_by value_text (mps_of p)) (one_program (linear_of nl.file k) h.program j.program h.exports j.exports) ∙ sym j.written
 
   -- what is accepted needs both stages and no more
-  pub staged_either : (accepts : List ℕ → Type 0) → ((a b : List ℕ) → accepts a → accepts b → a ≡ b) → ((bytes : List ℕ) → accepts bytes → CanBeExported nl k) → (CanBeExported nl k → (bytes : List ℕ) × accepts bytes) → IsEither accepts (CannotBeExported nl k)
+  pub staged_either : (accepts : List ℕ → Type 0) → ((a b : List ℕ) → accepts a → accepts b → a ≡ b)
+      → ((bytes : List ℕ) → accepts bytes → CanBeExported nl k) → (CanBeExported nl k → (bytes : List ℕ) × accepts bytes)
+      → IsEither accepts (CannotBeExported nl k)
   staged_either accepts one needs gives = record {
     accepted = one;
     refused = one_reason nl k;
@@ -52,10 +54,12 @@ module _ (nl : NlValue) (k : ℕ) where
   an_export s = let m = a_program (linear_of nl.file k) in (mps_text_by value_text (mps_of m.0), record { program = m.0; staged = s; exports = m.1; written = refl })
 
 pub export_last : (k : ℕ) → IsLast false IsNl HasTextRefusal (λ nl. ExportsAs nl k) (λ nl old new. new ≤ old + fold_steps nl k)
-export_last k = either_last nl_read (λ nl. IsExported nl k) (λ nl. CannotBeExported nl k) (λ nl. fold_steps nl k) (λ nl. staged_either nl k (IsExported nl k) (one_text nl k) (λ bytes e. e.staged) (an_export nl k))
+export_last k = either_last nl_read (λ nl. IsExported nl k) (λ nl. CannotBeExported nl k) (λ nl. fold_steps nl k)
+    (λ nl. staged_either nl k (IsExported nl k) (one_text nl k) (λ bytes e. e.staged) (an_export nl k))
 
 -- what was folded, scaled and written
-pub exported_so : (nl : NlValue) (k : ℕ) (l : LinearValue) (s : ScaledValue) (bytes : List ℕ) → HasFolded nl k l → HasScaled (linear_value l) s → bytes ≡ mps_text_by value_text (mps_of (scaled_as s)) → IsExported nl k bytes
+pub exported_so : (nl : NlValue) (k : ℕ) (l : LinearValue) (s : ScaledValue) (bytes : List ℕ) → HasFolded nl k l
+    → HasScaled (linear_value l) s → bytes ≡ mps_text_by value_text (mps_of (scaled_as s)) → IsExported nl k bytes
 exported_so nl k l s bytes folds scales written = record { program = scaled_as s; staged = staged_so nl k l folds s scales; exports = exports_so nl k l folds s scales; written = written }
 
 row_factors : (f : File) (k i : ℕ) → 0 < factor_of_row (linear_of f k) i

@@ -1,29 +1,30 @@
 -- The linear program of a file is named by number, and within the limits of what is exported where the file folds.
-use Rattle.std.proofs.Common.{◌≡◌, ◌∙◌, if◌then◌else◌, ℕ, zero, suc, ◌+◌, ◌≤◌, ◌^◌, Bool, true, false, nat_lt, List, [], ◌∷◌, ◌++◌, length, get_or, Option, Some, None, refl, sym, ap, ap₂, subst, arith}
+use Rattle.std.proofs.Common.{◌≡◌, ◌∙◌, if◌then◌else◌, ℕ, zero, suc, ◌+◌, ◌≤◌, ◌^◌, Bool, true, false, nat_lt, List, []}
+use Rattle.std.proofs.Common.{◌∷◌, ◌++◌, length, get_or, Option, Some, None, refl, sym, ap, ap₂, subst, arith}
 use Rattle.std.specs.Prelude.{All, IfSome, option_map}
 use Rattle.std.specs.List.{sum_by}
 use Rattle.std.proofs.lemmas.Bool.{ltb-false}
 use Rattle.std.proofs.lemmas.List.Sums.{sum_by-append, sum_by-cons, sum_by_push}
-use Rattle.fractions.proofs.Tests.{option_or-none}
+use Rattle.exact_numbers.proofs.Tests.{option_or-none}
 use Rattle.exact_numbers.specs.declared.dec.Dec.{Dec}
 use Rattle.exact_numbers.specs.Values.{FitsDec, dec_value}
 use Rattle.exact_numbers.proofs.Fitting.{dec_fits}
 use Rattle.linear_program.specs.declared.interval.Interval.{Interval as Sides}
 use Rattle.linear_program.specs.Intervals.{interval_of, no_sides}
-use Rattle.program_meaning.specs.Elements.{elements_from}
-use Rattle.program_meaning.specs.Linear.{Interval, Variable, no_row, no_variable, row_count, variable_count}
-use Rattle.program_meaning.specs.Lines.{Line, form_of_line}
-use Rattle.program_meaning.specs.Names.{row_name, variable_name}
-use Rattle.program_meaning.proofs.Elements.{all_elements, elements_at, elements_length}
+use Rattle.linear_program.specs.Elements.{elements_from}
+use Rattle.linear_program.specs.Linear.{Interval, Variable, no_row, no_variable, row_count, variable_count}
+use Rattle.linear_program.specs.Lines.{Line, form_of_line}
+use Rattle.linear_program.specs.Names.{row_name, variable_name}
+use Rattle.linear_program.proofs.Elements.{all_elements, elements_at, elements_length}
 use Rattle.nl_model.specs.File.{File}
 use Rattle.nl_model.specs.Rules.{IsFile}
 use Rattle.nl_model.proofs.Headers.{counts_of_header}
-use Rattle.file_meaning.specs.Expressions.{definitions_of, body_of, objective_of}
-use Rattle.file_meaning.specs.FoldFaults.{FoldFault, Owned, coefficient_count, fold_fault, has_objective, head_fault, most_coefficients, owned_by, owned_definition, owned_line, owners_fault}
-use Rattle.file_meaning.specs.LinearFile.{linear_of, linear_row, linear_variable, objective_form}
-use Rattle.file_meaning.proofs.Files.{linear_lem}
-use Rattle.file_meaning.proofs.Formed.{file_formed}
-use Rattle.export_round_trip.specs.Exportable.{HasDecimalBounds, IsExportable, IsNamedByNumber, coefficient_total, form_count}
+use Rattle.nl_model.specs.Expressions.{definitions_of, body_of, objective_of}
+use Rattle.nl_model.specs.FoldFaults.{FoldFault, Owned, coefficient_count, fold_fault, has_objective, head_fault, most_coefficients, owned_by, owned_definition, owned_line, owners_fault}
+use Rattle.nl_model.specs.LinearFile.{linear_of, linear_row, linear_variable, objective_form}
+use Rattle.nl_model.proofs.Files.{linear_lem}
+use Rattle.nl_model.proofs.Formed.{file_formed}
+use Rattle.round_trips.specs.Exportable.{HasDecimalBounds, IsExportable, IsNamedByNumber, coefficient_total, form_count}
 use Rattle.nl_model.specs.declared.at.Owner.{Owner}
 use Rattle.nl_model.specs.declared.at.Owner.TheVariants.{Con, Obj}
 
@@ -99,7 +100,10 @@ bodies_count : (f : File) (n i m : ℕ) → sum_by (size n) (elements_from (λ i
 unfolding elements_from
 bodies_count f n i zero = refl
 bodies_count f n i (suc m) =
-    sum_by-cons (size n) (owned_by f (Con i) (body_of f i)) (elements_from (λ i. owned_by f (Con i) (body_of f i)) (suc i) m) ∙ ap₂ (λ (a b : ℕ). a + b) (same_count (owned_line (owned_by f (Con i) (body_of f i))) n) (bodies_count f n (suc i) m)
+    sum_by-cons (size n) (owned_by f (Con i) (body_of f i))
+    (elements_from (λ i. owned_by f (Con i) (body_of f i)) (suc i) m)
+    ∙ ap₂ (λ (a b : ℕ). a + b) (same_count (owned_line (owned_by f (Con i) (body_of f i))) n)
+    (bodies_count f n (suc i) m)
     ∙ sym (sum_by-cons (λ r. form_count n r.body) (linear_row f i) (elements_from (linear_row f) (suc i) m))
 
 few_coefficients : (f : File) (k : ℕ) → fold_fault f k ≡ None
@@ -133,7 +137,8 @@ few_coefficients f k e = by (has_objective f k) e
 total_of : (f : File) (k : ℕ) → fold_fault f k ≡ None → coefficient_total (linear_of f k) ≤ 2 ^ 23
 unfolding linear_of
 total_of f k folded =
-    subst (λ (n : ℕ). sum_by (λ r. form_count n r.body) (elements_from (linear_row f) 0 f.counts.n_con) + form_count n (objective_form f k) ≤ 2 ^ 23) (sym (elements_length (linear_variable f) 0 f.counts.n_var))
+    subst (λ (n : ℕ). sum_by (λ r. form_count n r.body) (elements_from (linear_row f) 0 f.counts.n_con)
+    + form_count n (objective_form f k) ≤ 2 ^ 23) (sym (elements_length (linear_variable f) 0 f.counts.n_var))
     (few_coefficients f k folded)
 
 pub file_exportable : (f : File) (k : ℕ) → IsFile f → fold_fault f k ≡ None → IsExportable (linear_of f k)

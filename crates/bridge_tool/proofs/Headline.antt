@@ -1,7 +1,7 @@
 -- Words come to exactly one outcome; what the top call says of any command, and the headline.
 use Rattle.std.proofs.Common.{◌≡◌, ◌∙◌, ℕ, List, Option, Some, None, true, false, Bool, refl, sym, inl, inr, ◌⊎◌, ◌<◌, ◌≤◌, IfSome, subst, arith, ◌≢◌}
 use Rattle.std.specs.Prelude.{codes}
-use Rattle.desk.specs.Desk.{Texts, Meaning, Rose, OnlyMessages}
+use Rattle.text_base.specs.Desk.{Texts, Meaning, Rose, OnlyMessages}
 use Rattle.bridge_tool.specs.Check.{IsCertified, IsNotCertified}
 use Rattle.bridge_tool.specs.Command.{Command, Check, Export, Rewrite, command_of, Prove, Verify, Make, Return, NamedExport, NamedReturn}
 use Rattle.bridge_tool.specs.Commands.{promise_of, promise_by, ComesTo}
@@ -76,7 +76,9 @@ some_outcome texts words = let h = has_one texts (command_of words) in (h.outcom
 pub one_outcome : (texts : Option Texts) (words : List (List ℕ)) (a b : Outcome) → ComesTo texts words a → ComesTo texts words b → a ≡ b
 one_outcome texts words a b p q = let h = has_one texts (command_of words) in h.one a p ∙ sym (h.one b q)
 
-told_by_status : (o : Outcome) (status : ℕ) (line : List ℕ) (P : List ℕ → Type 0) → IfSome (told_line o status) (λ x. x ≡ line) → ((1 < status) ⊎ (status ≤ 1)) → (1 < status → P line) → IfSome (told_line o status) P
+told_by_status : (o : Outcome) (status : ℕ) (line : List ℕ) (P : List ℕ → Type 0)
+    → IfSome (told_line o status) (λ x. x ≡ line) → ((1 < status) ⊎ (status ≤ 1)) → (1 < status → P line)
+    → IfSome (told_line o status) P
 told_by_status o status line P is (inl lt) tells = IfSome_then (told_line o status) is (λ x e. subst P (sym e) (tells lt))
 told_by_status o status line P is (inr le) tells = rw (line_none o status le) tt
 
@@ -97,9 +99,15 @@ answered_so : (p : Promise) (old mid new : Meaning) (answer : Answer) → IsWork
     → OnlyMessages mid new → IsAnswered p old new (status_of answer)
 answered_so p old mid new answer h tells silent rest =
     let P : List ℕ → Type 0 = λ line. TellsFront old.told new.told old.message_faults new.message_faults line in
-    let tells_old : 1 < status_of answer → P (told_by answer) = λ lt. subst (λ (n : ℕ). TellsFront old.told new.told n new.message_faults (told_by answer)) h.messages (subst (λ (t : Option (List ℕ)). TellsFront t new.told mid.message_faults new.message_faults (told_by answer)) h.told (tells lt)) in
+    let tells_old : 1 < status_of answer → P (told_by answer) =
+    λ lt. subst (λ (n : ℕ). TellsFront old.told new.told n new.message_faults (told_by answer)) h.messages
+    (subst (λ (t : Option (List ℕ)). TellsFront t new.told mid.message_faults new.message_faults (told_by answer))
+    h.told (tells lt)) in
     record {
-      which = λ o c. subst (λ (n : ℕ). Status o (Rose old.input_faults n) (Rose old.output_faults new.output_faults) (status_of answer)) (sym rest.input_faults) (subst (λ (n : ℕ). Status o (Rose old.input_faults mid.input_faults) (Rose old.output_faults n) (status_of answer)) (sym rest.output_faults) (h.status o c));
+      which = λ o c. subst (λ (n : ℕ). Status o (Rose old.input_faults n) (Rose old.output_faults new.output_faults)
+          (status_of answer)) (sym rest.input_faults) (subst
+          (λ (n : ℕ). Status o (Rose old.input_faults mid.input_faults) (Rose old.output_faults n) (status_of answer))
+          (sym rest.output_faults) (h.status o c));
       written = λ o c. subst (λ (w : Option (List ℕ)). Written o old.written w (status_of answer)) (sym rest.written) (h.written o c);
       refusal = λ e. (told_by answer, refusal_told answer e, tells_old (omega (arith, e)));
       quiet = λ q. rest.written ∙ h.quiet q;
@@ -116,72 +124,83 @@ pub answered : (p : Promise) (old mid new : Meaning) (answer : Answer) (status :
 answered p old mid new answer status h is tells silent rest =
     subst (IsAnswered p old new) (sym is) (answered_so p old mid new answer h (λ lt. tells (subst (λ (n : ℕ). 1 < n) (sym is) lt)) (λ le. silent (subst (λ (n : ℕ). n ≤ 1) (sym is) le)) rest)
 
-module _ (p : Promise) (old new : Meaning) (status : ℕ) (a : IsAnswered p old new status) (memory : status ≢ 6) (no_input : Rose old.input_faults new.input_faults → ⊥) (no_output : Rose old.output_faults new.output_faults → ⊥) where
-  -- nothing is done, and the status says why
-  not_done : 2 ≤ status → ((holds : Bool) (bytes : List ℕ) → p.comes (Done holds bytes) → ⊥) → ((line : List ℕ) × (status ≡ 2) × Tells p old new (Refused line) line) ⊎ ((status ≡ 4) × Tells p old new NoText (codes "input fault\n")) → Answers p old new status
-  not_done high is_not why = record {
-    done = (λ z. absurd (omega (arith, z, high)), λ e. absurd (is_not true e.0 e.1));
-    denied = (λ z. absurd (omega (arith, z, high)), λ e. absurd (is_not false e.0 e.1));
-    wrote = λ holds bytes c. absurd (is_not holds bytes c);
-    means = λ bytes c. absurd (is_not true bytes c);
-    denies = λ z. absurd (omega (arith, z, high));
-    other = inr why;
-  }
+module _ (p : Promise) (old new : Meaning) (status : ℕ) (a : IsAnswered p old new status) (memory : status ≢ 6)
+    (no_input : Rose old.input_faults new.input_faults → ⊥) (no_output : Rose old.output_faults new.output_faults → ⊥)
+  where
+    -- nothing is done, and the status says why
+    not_done : 2 ≤ status → ((holds : Bool) (bytes : List ℕ) → p.comes (Done holds bytes) → ⊥)
+        → ((line : List ℕ) × (status ≡ 2) × Tells p old new (Refused line) line) ⊎
+        ((status ≡ 4) × Tells p old new NoText (codes "input fault\n")) → Answers p old new status
+    not_done high is_not why = record {
+      done = (λ z. absurd (omega (arith, z, high)), λ e. absurd (is_not true e.0 e.1));
+      denied = (λ z. absurd (omega (arith, z, high)), λ e. absurd (is_not false e.0 e.1));
+      wrote = λ holds bytes c. absurd (is_not holds bytes c);
+      means = λ bytes c. absurd (is_not true bytes c);
+      denies = λ z. absurd (omega (arith, z, high));
+      other = inr why;
+    }
 
-  no_text : p.comes NoText → ((other : Outcome) → p.comes other → other ≡ NoText) → Answers p old new status
-  no_text h one =
-      let four : status ≡ 4 = elim (a.which NoText h) [ inl e ↦ e | inr e ↦ absurd (memory e) ] in
-      not_done (omega (arith, four)) (λ holds bytes c. let e = one (Done holds bytes) c in absurd cc)
-      (inr (four, record { comes = h; quiet = a.quiet (inr (inr (inl four))); told = rw four at (a.told NoText h) }))
+    no_text : p.comes NoText → ((other : Outcome) → p.comes other → other ≡ NoText) → Answers p old new status
+    no_text h one =
+        let four : status ≡ 4 = elim (a.which NoText h) [ inl e ↦ e | inr e ↦ absurd (memory e) ] in
+        not_done (omega (arith, four)) (λ holds bytes c. let e = one (Done holds bytes) c in absurd cc)
+        (inr (four, record { comes = h; quiet = a.quiet (inr (inr (inl four))); told = rw four at (a.told NoText h) }))
 
-  refused : (line : List ℕ) → p.comes (Refused line) → ((other : Outcome) → p.comes other → other ≡ Refused line) → Answers p old new status
-  refused line h one =
-      let two : status ≡ 2 = elim (a.which (Refused line) h) [ inl e ↦ e | inr q ↦ elim q [ inl e ↦ absurd (memory e) | inr f ↦ absurd (no_input f.1) ] ] in
-      not_done (omega (arith, two)) (λ holds bytes c. let e = one (Done holds bytes) c in absurd cc)
-      (inl (line, two, record { comes = h; quiet = a.quiet (inl two); told = rw two at (a.told (Refused line) h) }))
+    refused : (line : List ℕ) → p.comes (Refused line) → ((other : Outcome) → p.comes other → other ≡ Refused line) → Answers p old new status
+    refused line h one =
+        let two : status ≡ 2 = elim (a.which (Refused line) h) [ inl e ↦ e | inr q ↦ elim q [ inl e ↦ absurd (memory e) | inr f ↦ absurd (no_input f.1) ] ] in
+        not_done (omega (arith, two)) (λ holds bytes c. let e = one (Done holds bytes) c in absurd cc)
+        (inl (line, two, record { comes = h; quiet = a.quiet (inl two); told = rw two at (a.told (Refused line) h) }))
 
-  verdict : (holds : Bool) (bytes : List ℕ) → p.comes (Done holds bytes) → status ≡ verdict_status holds
-  verdict holds bytes h = elim (a.which (Done holds bytes) h) [ inl e ↦ e | inr q ↦ elim q [ inl e ↦ absurd (memory e) | inr r ↦ elim r [ inl f ↦ absurd (no_input f.1) | inr f ↦ absurd (no_output f.1) ] ] ]
+    verdict : (holds : Bool) (bytes : List ℕ) → p.comes (Done holds bytes) → status ≡ verdict_status holds
+    verdict holds bytes h = elim (a.which (Done holds bytes) h) [
+      | inl e ↦ e
+      | inr q ↦ elim q [
+        | inl e ↦ absurd (memory e)
+        | inr r ↦ elim r
+            [ inl f ↦ absurd (no_input f.1) | inr f ↦ absurd (no_output f.1) ]
+      ]
+    ]
 
-  wrote : (holds : Bool) (bytes : List ℕ) → p.comes (Done holds bytes) → Appends old.written new.written bytes × (new.told ≡ old.told)
-  wrote holds bytes h =
-      let le : status ≤ 1 = subst (λ (n : ℕ). n ≤ 1) (sym (verdict holds bytes h)) (low holds) in
-      ((a.written (Done holds bytes) h).0 le, a.silent le)
+    wrote : (holds : Bool) (bytes : List ℕ) → p.comes (Done holds bytes) → Appends old.written new.written bytes × (new.told ≡ old.told)
+    wrote holds bytes h =
+        let le : status ≤ 1 = subst (λ (n : ℕ). n ≤ 1) (sym (verdict holds bytes h)) (low holds) in
+        ((a.written (Done holds bytes) h).0 le, a.silent le)
 
-  done : (bytes : List ℕ) → p.comes (Done true bytes) → Answers p old new status
-  done bytes h =
-      let is : status ≡ 0 = verdict true bytes h in
-      record {
-        done = (λ z. (bytes, h), λ e. is);
-        denied = (λ z. absurd (omega (arith, z, is)), λ e. verdict false e.0 e.1);
-        wrote = wrote;
-        means = λ other c. a.means is other c;
-        denies = a.denies;
-        other = inl (omega (arith, is));
-      }
+    done : (bytes : List ℕ) → p.comes (Done true bytes) → Answers p old new status
+    done bytes h =
+        let is : status ≡ 0 = verdict true bytes h in
+        record {
+          done = (λ z. (bytes, h), λ e. is);
+          denied = (λ z. absurd (omega (arith, z, is)), λ e. verdict false e.0 e.1);
+          wrote = wrote;
+          means = λ other c. a.means is other c;
+          denies = a.denies;
+          other = inl (omega (arith, is));
+        }
 
-  denied : (bytes : List ℕ) → p.comes (Done false bytes) → Answers p old new status
-  denied bytes h =
-      let is : status ≡ 1 = verdict false bytes h in
-      record {
-        done = (λ z. absurd (omega (arith, z, is)), λ e. verdict true e.0 e.1);
-        denied = (λ z. (bytes, h), λ e. is);
-        wrote = wrote;
-        means = λ other c. (let zero = verdict true other c in absurd (omega (arith, zero, is)));
-        denies = a.denies;
-        other = inl (omega (arith, is));
-      }
+    denied : (bytes : List ℕ) → p.comes (Done false bytes) → Answers p old new status
+    denied bytes h =
+        let is : status ≡ 1 = verdict false bytes h in
+        record {
+          done = (λ z. absurd (omega (arith, z, is)), λ e. verdict true e.0 e.1);
+          denied = (λ z. (bytes, h), λ e. is);
+          wrote = wrote;
+          means = λ other c. (let zero = verdict true other c in absurd (omega (arith, zero, is)));
+          denies = a.denies;
+          other = inl (omega (arith, is));
+        }
 
-  by_outcome : (o : Outcome) → p.comes o → IsPlain o → ((other : Outcome) → p.comes other → other ≡ o) → Answers p old new status
-  by_outcome BadWords h is one = absurd is
-  by_outcome (Untold judges) h is one = absurd is
-  by_outcome NoText h is one = no_text h one
-  by_outcome (Refused line) h is one = refused line h one
-  by_outcome (Done true bytes) h is one = done bytes h
-  by_outcome (Done false bytes) h is one = denied bytes h
+    by_outcome : (o : Outcome) → p.comes o → IsPlain o → ((other : Outcome) → p.comes other → other ≡ o) → Answers p old new status
+    by_outcome BadWords h is one = absurd is
+    by_outcome (Untold judges) h is one = absurd is
+    by_outcome NoText h is one = no_text h one
+    by_outcome (Refused line) h is one = refused line h one
+    by_outcome (Done true bytes) h is one = done bytes h
+    by_outcome (Done false bytes) h is one = denied bytes h
 
-  pub answers : HasOne IsPlain p.comes → Answers p old new status
-  answers h = by_outcome h.outcome h.comes_to h.is h.one
+    pub answers : HasOne IsPlain p.comes → Answers p old new status
+    answers h = by_outcome h.outcome h.comes_to h.is h.one
 
 -- what is answered for words is the headline of their command
 pub at_command : (told : Option Texts) (asked : Option Command) (texts : Texts) (command : Command) (old new : Meaning) (status : ℕ) → told ≡ Some texts → asked ≡ Some command

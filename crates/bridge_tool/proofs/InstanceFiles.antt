@@ -4,18 +4,19 @@ use Rattle.std.specs.Prelude.{IfSome, if◌then◌else◌}
 use Rattle.std.specs.List.{range_with_len}
 use Rattle.std.proofs.lemmas.List.Elements.{All-nil, All-cons}
 use Rattle.std.proofs.lemmas.List.FromFn.{length-map-range_with_len, map-range_with_len_more}
-use Rattle.nl_meaning.specs.Trees.{number, defined}
+use Rattle.nl_model.specs.Trees.{number, defined}
 use Rattle.nl_model.specs.declared.objective.Objective.{Objective}
 use Rattle.nl_model.specs.Nodes.{IsTreeFormed}
 use Rattle.nl_model.specs.Rules.{AreBodies, AreDefinitions, AreGuesses, AreObjectives, AreTerms, AreTermsBelow, IsDefinition, IsFile, IsSuffix, IsTreeKnown, IsTreeWithin, most_terms, term_count}
 use Rattle.linear_program.specs.Intervals.{IsOrdered}
-use Rattle.instances.specs.Draws.{drawn_row}
-use Rattle.instances.specs.Instance.{each, whole_dec, counts_of, chained, definition_of, body_of, terms_of, side_of, bound_of, slope_of, goal_of, instance}
-use Rattle.instances.specs.InsideMaking.{drafted}
-use Rattle.instances.proofs.Drafting.{can_add}
-use Rattle.instances.proofs.NumberLemmas.{is_headed}
-use Rattle.instances.proofs.RowLemmas.{is_one, not_defined, terms_so_far}
+use Rattle.bridge_tool.specs.Draws.{drawn_row}
+use Rattle.bridge_tool.specs.Instance.{each, whole_dec, counts_of, chained, definition_of, body_of, terms_of, side_of, bound_of, slope_of, goal_of, instance}
+use Rattle.bridge_tool.specs.InsideMaking.{drafted}
+use Rattle.bridge_tool.proofs.Drafting.{can_add}
+use Rattle.bridge_tool.proofs.NumberLemmas.{is_headed}
+use Rattle.bridge_tool.proofs.RowLemmas.{is_one, not_defined, terms_so_far}
 use Rattle.bridge_tool.proofs.InstanceNumbers.{above_zero}
+use Rattle.round_trips.proofs.Files.{one}
 
 -- what holds of each number below the limit holds of m of them from a on
 all_from : {A : Type 0} (P : A → Type 0) (f : ℕ → A) (limit a m : ℕ) → a + m ≤ limit → ((k : ℕ) → k < limit → P (f k)) → All P (map f (range_with_len a m))
@@ -24,9 +25,6 @@ all_from P f limit a (suc m) le h = All-cons P (f a) (map f (range_with_len (a +
 
 pub all_each : {A : Type 0} (P : A → Type 0) (f : ℕ → A) (n : ℕ) → ((k : ℕ) → k < n → P (f k)) → All P (each n f)
 all_each P f n h = all_from P f n 0 n (omega arith) h
-
-one : {A : Type 0} (P : A → Type 0) (x : A) → P x → All P (x ∷ [])
-one P x h = All-cons P x [] h (All-nil P)
 
 -- ---- definitions
 

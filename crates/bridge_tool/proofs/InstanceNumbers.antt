@@ -2,14 +2,14 @@
 use Rattle.std.proofs.Common.{◌≡◌, ℕ, pos, inl, inr, ◌⊎◌, sym, subst, arith, Option, Some, None}
 use Rattle.std.specs.Prelude.{MatchOption, true, false}
 use Rattle.std.proofs.lemmas.Int.{ints}
-use Rattle.fractions.specs.Rational.{whole, ◌≤ℚ◌}
-use Rattle.fractions.proofs.Arithmetic.{whole-≤ℚ}
+use Rattle.exact_numbers.specs.Rational.{whole, ◌≤ℚ◌}
+use Rattle.exact_numbers.proofs.RationalLaws.{whole-≤ℚ}
 use Rattle.exact_numbers.specs.declared.dec.Dec.{Dec}
 use Rattle.exact_numbers.specs.Numbers.{dec_from}
 use Rattle.exact_numbers.specs.Values.{dec_value, fits_dec}
 use Rattle.exact_numbers.proofs.Bridge.{zero_decimal}
 use Rattle.exact_numbers.proofs.NumberLemmas.{dec_from-fits}
-use Rattle.instances.specs.Instance.{or_zero, whole_dec}
+use Rattle.bridge_tool.specs.Instance.{or_zero, whole_dec}
 
 -- the number itself, or 0
 whole_value : (n : ℕ) → (dec_value (whole_dec n) ≡ whole (pos n)) ⊎ (dec_value (whole_dec n) ≡ whole (pos 0))

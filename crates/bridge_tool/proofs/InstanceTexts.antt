@@ -7,7 +7,7 @@ use Rattle.std.proofs.lemmas.Bool.{ltb-true}
 use Rattle.std.proofs.lemmas.List.Elements.{All-cons, All-nil}
 use Rattle.std.proofs.lemmas.List.FromFn.{length-map-range_with_len}
 use Rattle.std.proofs.lemmas.List.Sums.{sum_by-cons}
-use Rattle.nl_meaning.specs.Trees.{number, defined, tree_size}
+use Rattle.nl_model.specs.Trees.{number, defined, tree_size}
 use Rattle.nl_model.specs.declared.node.Node.TheVariants.{Num, Defined}
 use Rattle.nl_model.specs.File.{Term}
 use Rattle.nl_model.specs.declared.definition.Def.{Def as Definition}
@@ -18,11 +18,11 @@ use Rattle.nl_model.specs.Kinds.{variable_kind}
 use Rattle.nl_model.proofs.KindRuns.{variable_kind_by_runs}
 use Rattle.nl_model.specs.Nodes.{a_number, a_defined}
 use Rattle.nl_writer.specs.Written.{nl_text}
-use Rattle.nl_round_trip.specs.Writable.{AreTreesWritable, HasNodes, IsText, IsWithinLimits, IsWritable, IsWritableSuffix, linear_count, node_count}
-use Rattle.nl_round_trip.proofs.Room.{writable_by}
-use Rattle.nl_round_trip.proofs.WholeLaw.{written_is_read}
+use Rattle.round_trips.specs.Writable.{AreTreesWritable, HasNodes, IsText, IsWithinLimits, IsWritable, IsWritableSuffix, linear_count, node_count}
+use Rattle.round_trips.proofs.Room.{writable_by}
+use Rattle.round_trips.proofs.WholeLaw.{written_is_read}
 use Rattle.nl_lines.specs.Tests.{is_binary}
-use Rattle.instances.specs.Instance.{each, zero_dec, counts_of, definition_of, body_of, slope_of, goal_of, instance}
+use Rattle.bridge_tool.specs.Instance.{each, zero_dec, counts_of, definition_of, body_of, slope_of, goal_of, instance}
 use Rattle.bridge_tool.proofs.InstanceFiles.{all_each, is_file, term_total}
 
 -- ---- trees
@@ -86,7 +86,14 @@ none_among (g ∷ gs) j all = by (nat_lt j g.size) refl all.0 (none_among gs (j 
     by false e h more = more
 
 never_binary : (n j : ℕ) → is_binary (variable_kind (counts_of n) j) ≡ false
-never_binary n j = ap is_binary (variable_kind_by_runs (counts_of n) j) ∙ none_among (runs (counts_of n)) j (inl refl, (inl refl, (inl refl, (inl refl, (inl refl, (inl refl, (inl refl, (inr refl, (inl refl, tt)))))))))
+never_binary n j = ap is_binary (variable_kind_by_runs (counts_of n) j)
+    ∙ none_among (runs (counts_of n)) j (
+      inl refl,
+      (
+        inl refl,
+        (inl refl, (inl refl, (inl refl, (inl refl, (inl refl, (inr refl, (inl refl, tt))))))),
+      ),
+    )
 
 -- ---- the laws
 

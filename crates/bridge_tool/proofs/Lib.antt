@@ -1,3 +1,8 @@
+pub mod Examples
+pub mod DrawLemmas
+pub mod NumberLemmas
+pub mod RowLemmas
+pub mod Drafting
 pub mod Exporting
 pub mod FileLimits
 pub mod Headline

@@ -1,36 +1,40 @@
 -- An instance is summed up in one line, or its written text is refused with one line.
-use Rattle.std.proofs.Common.{[], ◌≡◌, ◌∙◌, ℕ, suc, ◌+◌, ◌<◌, ◌≤◌, ◌^◌, Bool, List, ◌∷◌, map, length, get_or, drop, Option, Some, None, cond, refl, sym, ap, ap₂, arith, inl, inr, true, false, if◌then◌else◌, Result, Ok, Err, subst}
+use Rattle.std.proofs.Common.{[], ◌≡◌, ◌∙◌, ℕ, suc, ◌+◌, ◌<◌, ◌≤◌, ◌^◌, Bool, List, ◌∷◌, map, length, get_or, drop}
+use Rattle.std.proofs.Common.{Option, Some, None, cond, refl, sym, ap, ap₂, arith, inl, inr, true, false, if◌then◌else◌}
+use Rattle.std.proofs.Common.{Result, Ok, Err, subst}
 use Rattle.std.specs.List.{count_by, sum_by}
 use Rattle.std.proofs.lemmas.List.Sums.{count_by-le-length, sum_by-cons, sum_by-drop_more, sum_by-le-sum_by}
 use Rattle.exact_numbers.specs.declared.dec.Dec.{Dec}
 use Rattle.exact_numbers.specs.Values.{dec_value, value_text}
 use Rattle.scaled_program.specs.Program.{is_exported}
-use Rattle.exported_program.specs.Program.{mps_of}
+use Rattle.scaled_program.specs.ExportedProgram.{mps_of}
 use Rattle.linear_program.specs.declared.form.Form.{Form}
 use Rattle.linear_program.specs.Programs.{LinearValue, form_of, linear_value, rows_from}
-use Rattle.program_meaning.specs.Names.{row_name}
+use Rattle.linear_program.specs.Names.{row_name}
 use Rattle.linear_program.specs.Intervals.{interval_of, is_sided}
 use Rattle.mps_model.specs.Built.{entry_of}
 use Rattle.mps_model.specs.Mps.{Column, Mps, column_with, with_values}
 use Rattle.mps_model.specs.Valid.{entry_count}
 use Rattle.linear_program.specs.declared.interval.Interval.{Interval}
-use Rattle.fractions.specs.Rational.{ℚ}
-use Rattle.bridge_tool.specs.Make.{coefficient_count, exported_count, is_coefficient, of_column, IsInstanceSummedUp, IsMade, IsSummedUp, LeavesInput, MakesAs, made_text, make_promise, summary_line, summary_of}
+use Rattle.exact_numbers.specs.Rational.{ℚ}
+use Rattle.bridge_tool.specs.Make.{coefficient_count, exported_count, is_coefficient, of_column, IsInstanceSummedUp}
+use Rattle.bridge_tool.specs.Make.{IsMade, IsSummedUp, LeavesInput, MakesAs, made_text, make_promise, summary_line}
+use Rattle.bridge_tool.specs.Make.{summary_of}
 use Rattle.std.specs.Global.{Vec}
-use Rattle.file_meaning.specs.FoldFaults.{has_objective}
-use Rattle.file_meaning.specs.LinearFile.{linear_of}
-use Rattle.instances.specs.Instance.{instance}
+use Rattle.nl_model.specs.FoldFaults.{has_objective}
+use Rattle.nl_model.specs.LinearFile.{linear_of}
+use Rattle.bridge_tool.specs.Instance.{instance}
 use Rattle.bridge_tool.proofs.InstanceTexts.{said}
 use Rattle.linear_fold.specs.FoldedFaults.{step_bound}
 use Rattle.mps_model.specs.Text.{mps_text_by}
 use Rattle.nl_model.specs.File.{File}
 use Rattle.nl_segments.specs.Grammar.{NlValue}
 use Rattle.nl_segments.specs.Reader.{IsNl}
-use Rattle.scaling.specs.Exported.{scaled_as}
-use Rattle.scaling.specs.Scaled.{ScaledValue}
-use Rattle.desk.specs.Desk.{Meaning, OnlyMessages}
-use Rattle.texts.specs.declared.stop.Stop.{Stop}
-use Rattle.texts.specs.declared.stop.Stop.TheVariants.{Fault as IsFault, Memory as IsMemory}
+use Rattle.row_scaling.specs.Exported.{scaled_as}
+use Rattle.row_scaling.specs.Scaled.{ScaledValue}
+use Rattle.text_base.specs.Desk.{Meaning, OnlyMessages}
+use Rattle.text_base.specs.declared.stop.Stop.{Stop}
+use Rattle.text_base.specs.declared.stop.Stop.TheVariants.{Fault as IsFault, Memory as IsMemory}
 use Rattle.command_core.specs.InsideAnswer.{Ends, IsWorked, status_of}
 use Rattle.bridge_tool.specs.Command.{Command, Make}
 use Rattle.bridge_tool.specs.Commands.{Leaves}
@@ -115,7 +119,9 @@ module _ (nl : NlValue) where
       (summary_of nl.file (mps_of e.1.program) e.0, record { mps = e.0; exported = e.1; summary = refl })))
 
 -- the summary of a program of decimals
-pub of_program : (variables rows terms bytes : ℕ) (m : Mps Dec) (p : Mps ℚ) (text out : List ℕ) → with_values dec_value m ≡ p → terms ≡ coefficient_count rows m → text ≡ mps_text_by value_text p → bytes ≡ length text → out ≡ summary_line variables rows terms bytes → IsSummedUp variables rows p out
+pub of_program : (variables rows terms bytes : ℕ) (m : Mps Dec) (p : Mps ℚ) (text out : List ℕ)
+    → with_values dec_value m ≡ p → terms ≡ coefficient_count rows m → text ≡ mps_text_by value_text p
+    → bytes ≡ length text → out ≡ summary_line variables rows terms bytes → IsSummedUp variables rows p out
 of_program variables rows terms bytes m p text out values counted written size line =
     line ∙ (λ i. summary_line variables rows ((counted ∙ coefficients_same rows m p values) i) ((size ∙ ap length written) i))
 
@@ -197,7 +203,9 @@ module _ (seed size : ℕ) where
   pub make_worked : size ≤ 20000 → (old new : Meaning) (judged : Result (Bool × Vec ℕ) (Stop Refusal)) (answer : Answer) → Comes (make_promise seed size).comes judged → Ends judged old new answer
       → IsWorked (make_promise seed size) old new answer
   make_worked few old new (Ok t) answer comes ends =
-      wrote_worked (make_promise seed size) false old old new t.0 t.1.items answer (come old (Done t.0 t.1.items) comes) (inl (holds_so t.0 t.1.items comes)) (of_yes t.0 (IsInstanceSummedUp seed size) (λ e. instance_summed_up seed size few)) ends
+      wrote_worked (make_promise seed size) false old old new t.0 t.1.items answer (come old (Done t.0 t.1.items) comes)
+      (inl (holds_so t.0 t.1.items comes)) (of_yes t.0 (IsInstanceSummedUp seed size)
+      (λ e. instance_summed_up seed size few)) ends
   make_worked few old new (Err (IsFault refusal)) answer comes ends =
       rw (ends.0, ends.1) (refused_worked (make_promise seed size) false old old refusal (come old (Refused refusal.line) comes))
   make_worked few old new (Err IsMemory) answer comes ends =

@@ -1,16 +1,16 @@
 -- What a file with two lists of names comes to: one outcome, what its program means, and that its text is read back.
 use Rattle.std.proofs.Common.{[], ◌≡◌, ◌∙◌, inl, inr, ◌⊎◌, ◌↔◌, ℕ, ◌+◌, ◌≤◌, List, false, refl, sym, ap, arith, ◌^◌, ◌∷◌, ◌++◌, length, map, Some, subst, All}
-use Rattle.fractions.specs.Rational.{ℚ}
+use Rattle.exact_numbers.specs.Rational.{ℚ}
 use Rattle.exact_numbers.specs.Values.{value_text, dec_value}
-use Rattle.file_meaning.specs.LinearFile.{linear_of, linear_row, linear_variable}
+use Rattle.nl_model.specs.LinearFile.{linear_of, linear_row, linear_variable}
 use Rattle.linear_program.specs.Programs.{LinearValue, linear_value}
 use Rattle.mps_model.specs.Mps.{Mps, Column, column_with, with_values}
 use Rattle.mps_model.specs.Text.{mps_text_by}
 use Rattle.name_files.specs.Renamed.{named, HasExportedNames, HaveOneMeaning, IsExportedName, IsNamedLinear, IsNumbered, new_name}
 use Rattle.nl_segments.specs.Grammar.{NlValue}
-use Rattle.scaling.specs.Exported.{scaled_as}
-use Rattle.scaling.specs.Scaled.{ScaledValue}
-use Rattle.desk.specs.Desk.{Texts}
+use Rattle.row_scaling.specs.Exported.{scaled_as}
+use Rattle.row_scaling.specs.Scaled.{ScaledValue}
+use Rattle.text_base.specs.Desk.{Texts}
 use Rattle.bridge_tool.specs.Export.{IsExported, IsSameProgram, IsTiedProgram, MeansTheFile}
 use Rattle.command_parts.specs.NameLists.{AreListed, IsListRefused, column_counts, row_counts}
 use Rattle.bridge_tool.specs.NamedExport.{AreNamedMeant, IsNamedExport, Named, NamedComesTo, named_end}
@@ -21,21 +21,21 @@ use Rattle.command_parts.proofs.NameLists.{list_read, listed_count}
 use Rattle.command_core.proofs.SeveralFiles.{IsEither, IsLast, IsSound, either_last, one_of_both, sound_end}
 use Rattle.command_parts.proofs.ExportStages.{a_program, exports_so, one_program, staged_so, decimal_decided}
 use Rattle.bridge_tool.proofs.Exporting.{staged_either, file_program, text_file}
-use Rattle.program_meaning.specs.Linear.{Linear, Row, Variable}
-use Rattle.program_meaning.specs.Names.{row_name, variable_name}
-use Rattle.texts.specs.Reading.{last_of, lines_of}
+use Rattle.linear_program.specs.Linear.{Linear, Row, Variable}
+use Rattle.linear_program.specs.Names.{row_name, variable_name}
+use Rattle.text_base.specs.Reading.{last_of, lines_of}
 use Rattle.exact_numbers.specs.declared.dec.Dec.{Dec}
-use Rattle.export_round_trip.specs.ReadAs.{IsReadAs}
+use Rattle.round_trips.specs.ReadAs.{IsReadAs}
 use Rattle.scaled_program.specs.Fits.{IsDecimal, IsScaledProgramOf, factor_of_row, factor_of_objective}
 use Rattle.scaled_program.specs.Program.{ScaledProgram}
-use Rattle.exported_program.specs.Program.{mps_of}
-use Rattle.program_meaning.specs.Elements.{elements_from}
-use Rattle.program_meaning.proofs.Elements.{all_elements, elements_length}
+use Rattle.scaled_program.specs.ExportedProgram.{mps_of}
+use Rattle.linear_program.specs.Elements.{elements_from}
+use Rattle.linear_program.proofs.Elements.{all_elements, elements_length}
 use Rattle.mps_model.specs.Valid.{IsMps}
 use Rattle.mps_reader.specs.Reader.{IsMpsText}
 use Rattle.mps_reader.specs.Written.{mps_text}
 use Rattle.mps_reader.proofs.RoundTrip.{written_again}
-use Rattle.name_lists.specs.Names.{AreNames}
+use Rattle.mps_model.specs.Names.{AreNames}
 use Rattle.name_files.proofs.ExportedNames.{plain_names, tied_names}
 use Rattle.name_files.proofs.ListedNames.{listed_names}
 use Rattle.name_files.proofs.MeaningLemmas.{same_meaning, valued}
@@ -45,10 +45,10 @@ use Rattle.nl_model.specs.Rules.{IsFile}
 use Rattle.nl_model.proofs.Headers.{counts_of_header}
 use Rattle.nl_segments.specs.Reader.{IsNl}
 use Rattle.exact_numbers.proofs.Fitting.{picked}
-use Rattle.export_round_trip.proofs.Picked.{values_back, whole_picked}
-use Rattle.export_round_trip.proofs.ReadBack.{program_whole}
+use Rattle.round_trips.proofs.Picked.{values_back, whole_picked}
+use Rattle.round_trips.proofs.ReadBack.{program_whole}
 use Rattle.bridge_tool.proofs.FileLimits.{file_exportable, file_rows, file_variables}
-use Rattle.export_round_trip.proofs.Reading.{text_of_values}
+use Rattle.round_trips.proofs.Reading.{text_of_values}
 
 -- ---- what a file with names comes to
 
@@ -63,7 +63,8 @@ module _ (n : Named) where
       (mps_text_by value_text (named (mps_of p.0) n.rows n.columns), record { program = p.0; staged = is; exports = p.1; written = refl }))
 
   -- it was folded, scaled and written with its names
-  pub written_so : (l : LinearValue) (s : ScaledValue) (bytes : List ℕ) → HasFolded n.nl n.objective l → HasScaled (linear_value l) s → IsNamedTextOf bytes (mps_of (scaled_as s)) n.rows n.columns → IsNamedExport n bytes
+  pub written_so : (l : LinearValue) (s : ScaledValue) (bytes : List ℕ) → HasFolded n.nl n.objective l
+      → HasScaled (linear_value l) s → IsNamedTextOf bytes (mps_of (scaled_as s)) n.rows n.columns → IsNamedExport n bytes
   written_so l s bytes folds scales t =
       record { program = scaled_as s; staged = staged_so n.nl n.objective l folds s scales; exports = exports_so n.nl n.objective l folds s scales; written = t.text }
 
@@ -72,9 +73,13 @@ module _ (n : Named) where
 abbrev pub of_lists : ℕ → NlValue → List (List ℕ) → List (List ℕ) → Named
 of_lists objective nl r c = record { nl = nl; objective = objective; rows = r; columns = c }
 
-pub named_last : (objective : ℕ) (nl : NlValue) (r : List (List ℕ)) → IsLast false (AreListed (column_counts nl.file)) (IsListRefused (column_counts nl.file) 3) (λ c. NamedComesTo (of_lists objective nl r c)) (λ c old new. new ≤ old + fold_steps nl objective)
+pub named_last : (objective : ℕ) (nl : NlValue) (r : List (List ℕ))
+    → IsLast false (AreListed (column_counts nl.file)) (IsListRefused (column_counts nl.file) 3)
+    (λ c. NamedComesTo (of_lists objective nl r c)) (λ c old new. new ≤ old + fold_steps nl objective)
 named_last objective nl r =
-    either_last (list_read (column_counts nl.file) 3) (λ c. IsNamedExport (of_lists objective nl r c)) (λ c. CannotBeExported nl objective) (λ c. fold_steps nl objective) (λ c. named_either (of_lists objective nl r c))
+    either_last (list_read (column_counts nl.file) 3) (λ c. IsNamedExport (of_lists objective nl r c))
+    (λ c. CannotBeExported nl objective) (λ c. fold_steps nl objective)
+    (λ c. named_either (of_lists objective nl r c))
 
 module _ (objective : ℕ) (columns : List ℕ) (nl : NlValue) (texts : Texts) (r c : List (List ℕ)) where
   -- what is left once both lists were read
@@ -82,7 +87,9 @@ module _ (objective : ℕ) (columns : List ℕ) (nl : NlValue) (texts : Texts) (
   after_names = named_end texts columns (of_lists objective nl r c)
 
   pub names_sound : IsSound after_names
-  names_sound = let n = of_lists objective nl r c in sound_end (texts columns) (NamedComesTo n) (λ old new. new ≤ old + fold_steps nl objective) (λ bytes. AreNamedMeant n) (Unit {0}) (one_of_both (IsNamedExport n) (CannotBeExported nl objective) (named_either n)) (λ m. omega arith)
+  names_sound = let n = of_lists objective nl r c in sound_end (texts columns) (NamedComesTo n)
+      (λ old new. new ≤ old + fold_steps nl objective) (λ bytes. AreNamedMeant n) (Unit {0})
+      (one_of_both (IsNamedExport n) (CannotBeExported nl objective) (named_either n)) (λ m. omega arith)
 
 -- ---- with names and without them
 
@@ -115,7 +122,9 @@ by_objective l p is exports (inl d) = subst (λ q. HasExportedNames (length l.ro
 by_objective l p is exports (inr n) = subst (λ q. HasExportedNames (length l.rows) (length l.variables) (mps_of q)) (sym (exports.tied n)) (tied_names l (factor_of_row l) is (factor_of_objective l))
 
 -- what a file is exported as has names by number
-pub export_named : (f : File) (k : ℕ) (p : ScaledProgram) (rows columns : ℕ) → IsFile f → IsScaledProgramOf (linear_of f k) p → rows ≡ f.counts.n_con → columns ≡ f.counts.n_var → HasExportedNames rows columns (mps_of p)
+pub export_named : (f : File) (k : ℕ) (p : ScaledProgram) (rows columns : ℕ) → IsFile f
+    → IsScaledProgramOf (linear_of f k) p → rows ≡ f.counts.n_con → columns ≡ f.counts.n_var
+    → HasExportedNames rows columns (mps_of p)
 export_named f k p rows columns file exports r c =
     let l = linear_of f k in
     let names = by_objective l p (linear_named f k file) exports (decimal_decided l) in
@@ -162,7 +171,8 @@ values_named m rows columns = valued (new_name row_name rows) (new_name variable
 
 pub one_meaning : (bytes : List ℕ) (p : Mps ℚ) (rows columns : List (List ℕ)) → IsNamedTextOf bytes p rows columns → HaveOneMeaning (named p rows columns) p
 one_meaning bytes p rows columns t =
-    let same : HaveOneMeaning (with_values dec_value (named t.decimal rows columns)) (with_values dec_value t.decimal) = same_meaning (new_name row_name rows) (new_name variable_name columns) t.decimal in
+    let same : HaveOneMeaning (with_values dec_value (named t.decimal rows columns)) (with_values dec_value t.decimal) =
+    same_meaning (new_name row_name rows) (new_name variable_name columns) t.decimal in
     let of_values : HaveOneMeaning (named (with_values dec_value t.decimal) rows columns) (with_values dec_value t.decimal) =
     subst (λ (q : Mps ℚ). HaveOneMeaning q (with_values dec_value t.decimal)) (values_named t.decimal rows columns) same in
     subst (λ (q : Mps ℚ). HaveOneMeaning (named q rows columns) q) t.values of_values
@@ -197,7 +207,9 @@ named_text bytes p m given rows columns values is valid text = record {
 }
 
 -- what was folded, scaled and written with names means what it should
-pub named_meant : (n : Named) (p : ScaledProgram) (out : List ℕ) → IsFile n.nl.file → IsScaledProgramOf (linear_of n.nl.file n.objective) p → IsNamedTextOf out (mps_of p) n.rows n.columns → AreNamedMeant n
+pub named_meant : (n : Named) (p : ScaledProgram) (out : List ℕ) → IsFile n.nl.file
+    → IsScaledProgramOf (linear_of n.nl.file n.objective) p → IsNamedTextOf out (mps_of p) n.rows n.columns
+    → AreNamedMeant n
 named_meant n p out file exports t = λ bytes e.
     let f = n.nl.file in
     let k = n.objective in
@@ -222,8 +234,11 @@ named_export_back text rows columns n read of_rows of_columns bytes e fits =
     let m : Mps Dec = with_values picked p in
     let values : with_values dec_value m ≡ p = values_back p whole.decimal in
     let row_names : AreNames n.rows = subst AreNames (sym of_rows.said) (listed_names (row_counts f) (lines_of rows) (last_of rows) (omega (arith, counts.constraints)) of_rows.clean) in
-    let column_names : AreNames n.columns = subst AreNames (sym of_columns.said) (listed_names (column_counts f) (lines_of columns) (last_of columns) (omega (arith, counts.variables)) of_columns.clean) in
-    let exported = export_named f k e.program (length n.rows) (length n.columns) file e.exports (listed_count (row_counts f) rows n.rows of_rows) (listed_count (column_counts f) columns n.columns of_columns) in
+    let column_names : AreNames n.columns = subst AreNames (sym of_columns.said)
+    (listed_names (column_counts f) (lines_of columns) (last_of columns) (omega (arith, counts.variables))
+    of_columns.clean) in
+    let exported = export_named f k e.program (length n.rows) (length n.columns) file e.exports
+    (listed_count (row_counts f) rows n.rows of_rows) (listed_count (column_counts f) columns n.columns of_columns) in
     let own = decimal_names (length n.rows) (length n.columns) m (subst (HasExportedNames (length n.rows) (length n.columns)) (sym values) exported) in
     let valid = program_named m n.rows n.columns row_names column_names own (whole_picked p whole.valid whole.decimal) in
     named_back bytes p n.rows n.columns (record { decimal = m; valid = valid; values = values; text = e.written }) fits

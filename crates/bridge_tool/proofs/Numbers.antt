@@ -24,7 +24,9 @@ no_digits [] e = absurd cc
 no_digits (b ∷ bs) e = let is : b ≡ 43 = eqb-true b 43 e in subst (λ (c : ℕ). all_ascii_digits (c ∷ bs) ≡ false) (sym is) refl
 
 pub plus_is_none : (word : List ℕ) → nat_eq (get_or word 0 0) 43 ≡ true → None ≡ plain_number word
-plus_is_none word e = not_plain word (and_left (is_plain word) (fits word) (and_left (has_digits word) (not (has_front_zero word)) (and_right (nat_lt 0 (length word)) (all_ascii_digits word) (no_digits word e))))
+plus_is_none word e = not_plain word (and_left (is_plain word) (fits word)
+    (and_left (has_digits word) (not (has_front_zero word))
+    (and_right (nat_lt 0 (length word)) (all_ascii_digits word) (no_digits word e))))
 
 pub zero_is_none : (word : List ℕ) → has_front_zero word ≡ true → None ≡ plain_number word
 zero_is_none word e = not_plain word (and_left (is_plain word) (fits word) (and_right (has_digits word) (not (has_front_zero word)) (not_from_true (has_front_zero word) e)))

@@ -21,7 +21,7 @@ use Rattle.sol_files.specs.Sol.{Sol as SolValue}
 use Rattle.sol_files.specs.Written.{sol_text}
 use Rattle.sol_files.proofs.KeptTexts.{read_keeps}
 use Rattle.sol_files.proofs.RoundTrip.{is_read_back}
-use Rattle.nl_round_trip.specs.Writable.{IsText}
+use Rattle.round_trips.specs.Writable.{IsText}
 use Rattle.nl_segments.specs.Reader.{IsNl}
 use Rattle.nl_writer.specs.Written.{nl_text}
 use Rattle.command_parts.specs.Refusal.{HasTextRefusal, IsFixedRefused, IsMpsRefused, IsSolRefused}
@@ -30,11 +30,11 @@ use Rattle.std.specs.Global.{Vec}
 use Rattle.mps_import.proofs.LawLemmas.{feasible_lem, objective_lem, sense_lem}
 use Rattle.mps_program.specs.declared.mps_fault.MpsFault.{MpsFault}
 use Rattle.mps_import.specs.Faults.{import_fault}
-use Rattle.texts.specs.declared.stop.Stop.{Stop}
+use Rattle.text_base.specs.declared.stop.Stop.{Stop}
 use Rattle.bridge_tool.specs.Import.{MeansTheProgram, by_fault, import_outcome, CannotBeImported, IsImportedAs}
 use Rattle.command_core.specs.SeveralFiles.{ByVerdict, Comes, Reached, Meets, ReadsFile, after_file, by_reached, ends, has_said, no_text, refused_with, writes}
 use Rattle.command_core.specs.declared.refused.Refusal.{Refusal}
-use Rattle.desk.specs.Desk.{Meaning, Texts}
+use Rattle.text_base.specs.Desk.{Meaning, Texts}
 use Rattle.command_core.specs.InsideAnswer.{Ends, IsAtRest}
 use Rattle.command_core.specs.declared.answer.Answer.{Answer}
 use Rattle.bridge_tool.proofs.Programs.{text_read}
@@ -74,7 +74,9 @@ module _ (m : Program Dec) where
       let clean = clean_by (import_fault m) holds bytes e in
       record { feasible = λ xs. feasible_lem m clean xs; objective = λ xs. objective_lem m xs; sense = sense_lem m }
 
-pub meant_so : (m : Program Dec) (judged : Result (Bool × Vec ℕ) (Stop Refusal)) → Comes (λ outcome. outcome ≡ import_outcome m) judged → IfOk judged (λ t. ByVerdict t.0 (MeansTheProgram m) (Unit {0}))
+pub meant_so : (m : Program Dec) (judged : Result (Bool × Vec ℕ) (Stop Refusal))
+    → Comes (λ outcome. outcome ≡ import_outcome m) judged → IfOk judged
+    (λ t. ByVerdict t.0 (MeansTheProgram m) (Unit {0}))
 meant_so m (Ok t) h = of_yes t.0 (MeansTheProgram m) (λ e. import_meant m t.0 t.1.items h)
 meant_so m (Err stop) h = tt
 
@@ -92,12 +94,17 @@ last_of Import = record {
 
 -- what reading the file, and what its value comes to, show of it
 module _ (of : OneFile) (file : List ℕ) {R : Type 0} (seen : R → (row_of of).Value) (old : Meaning) where
-  pub stopped : (new : Meaning) (answer : Answer) → ReadsFile {R = R} seen (row_of of).reads (row_of of).refuses file old new (Err answer) → IsAtRest (row_promise old.texts (row_of of) file) old new answer
+  pub stopped : (new : Meaning) (answer : Answer) → ReadsFile {R = R} seen (row_of of).reads (row_of of).refuses file
+      old new (Err answer) → IsAtRest (row_promise old.texts (row_of of) file) old new answer
   stopped new answer read = at_rest (λ n. only_stopped (last_of of) (λ value bytes. (row_of of).means value) NoVerdict file seen n old new answer read)
 
   pub ended : (mid new : Meaning) (value : R) (judged : Result (Bool × Vec ℕ) (Stop Refusal)) (answer : Answer) → ReadsFile {R = R} seen (row_of of).reads (row_of of).refuses file old mid (Ok value)
-      → Comes (λ outcome. outcome ≡ (row_of of).outcome (seen value)) judged → IfOk judged (λ t. ByVerdict t.0 ((row_of of).means (seen value)) (Unit {0})) → Ends judged mid new answer → IsAtRest (row_promise old.texts (row_of of) file) old new answer
-  ended mid new value judged answer read comes means ends = at_rest (λ n. only_ended (last_of of) (λ value bytes. (row_of of).means value) NoVerdict file seen old mid value read n n new judged answer comes means ends (omega arith) refl)
+      → Comes (λ outcome. outcome ≡ (row_of of).outcome (seen value)) judged
+      → IfOk judged (λ t. ByVerdict t.0 ((row_of of).means (seen value)) (Unit {0})) → Ends judged mid new answer
+      → IsAtRest (row_promise old.texts (row_of of) file) old new answer
+  ended mid new value judged answer read comes means ends =
+      at_rest (λ n. only_ended (last_of of) (λ value bytes. (row_of of).means value) NoVerdict file seen old mid value
+      read n n new judged answer comes means ends (omega arith) refl)
 
 done_same : (a b : List ℕ) → Done true a ≡ Done true b → a ≡ b
 done_same a b e = cc
@@ -167,8 +174,12 @@ module _ {V : Type 0} (reads : List ℕ → V → Type 0) (refuses : List ℕ �
       (λ value bytes. (done_same bytes (write value), λ e. cc)) (λ value line. (λ e. absurd cc, λ e. absurd e)) texts file text is
 
 pub export_by_text : (texts : Texts) (file text : List ℕ) (k : ℕ) → texts file ≡ Some text
-    → IsByText IsNl HasTextRefusal (λ nl. IsExported nl k) (λ nl. CannotBeExported nl k) (λ nl old new. new ≤ old + fold_steps nl k) (λ nl. IsExportMeant nl k) (take LIMIT text) (export_told file k texts)
-export_by_text texts file text k is = by_text IsNl HasTextRefusal nl_read (λ nl. ExportsAs nl k) (λ nl old new. new ≤ old + fold_steps nl k) (λ nl. IsExportMeant nl k) (λ nl. IsExported nl k) (λ nl. CannotBeExported nl k)
+    → IsByText IsNl HasTextRefusal (λ nl. IsExported nl k) (λ nl. CannotBeExported nl k)
+    (λ nl old new. new ≤ old + fold_steps nl k) (λ nl. IsExportMeant nl k) (take LIMIT text)
+    (export_told file k texts)
+export_by_text texts file text k is = by_text IsNl HasTextRefusal nl_read (λ nl. ExportsAs nl k)
+    (λ nl old new. new ≤ old + fold_steps nl k) (λ nl. IsExportMeant nl k) (λ nl. IsExported nl k)
+    (λ nl. CannotBeExported nl k)
     (λ nl bytes. (λ h. h, λ h. h)) (λ nl line. (λ h. h, λ h. h)) texts file text is
 
 module _ (texts : Texts) (file text : List ℕ) (is : texts file ≡ Some text) where

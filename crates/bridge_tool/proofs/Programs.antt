@@ -6,19 +6,19 @@ use Rattle.std.specs.Global.{Vec}
 use Rattle.std.proofs.lemmas.Bool.{lt-ltb}
 use Rattle.std.proofs.lemmas.Bool.Decides.{nat_tests}
 use Rattle.std.proofs.lemmas.Option.{same_Some}
-use Rattle.desk.specs.Desk.{Meaning, Texts}
-use Rattle.texts.specs.Reading.{lines_of}
-use Rattle.texts.specs.declared.stop.Stop.{Stop}
-use Rattle.texts.specs.declared.stop.Stop.TheVariants.{Fault, Memory}
-use Rattle.program_meaning.specs.Linear.{Linear, variable_count, row_count}
-use Rattle.duality.specs.Certificate.{ClaimOutcome, holds, fails}
-use Rattle.duality.specs.Means.{Means}
-use Rattle.duality.specs.Problem.{Problem}
-use Rattle.duality.specs.ProblemSays.{Denies}
-use Rattle.duality.specs.Told.{Told, IsToldTrue}
+use Rattle.text_base.specs.Desk.{Meaning, Texts}
+use Rattle.text_base.specs.Reading.{lines_of}
+use Rattle.text_base.specs.declared.stop.Stop.{Stop}
+use Rattle.text_base.specs.declared.stop.Stop.TheVariants.{Fault, Memory}
+use Rattle.linear_program.specs.Linear.{Linear, variable_count, row_count}
+use Rattle.certificates.specs.Certificate.{ClaimOutcome, holds, fails}
+use Rattle.certificates.specs.Means.{Means}
+use Rattle.certificates.specs.Problem.{Problem}
+use Rattle.certificates.specs.ProblemSays.{Denies}
+use Rattle.certificates.specs.ToldMeaning.{Told, IsToldTrue}
 use Rattle.exact_numbers.specs.declared.dec.Dec.{Dec}
-use Rattle.file_meaning.specs.FoldFaults.{FoldFault, fold_fault}
-use Rattle.file_meaning.specs.LinearFile.{linear_of}
+use Rattle.nl_model.specs.FoldFaults.{FoldFault, fold_fault}
+use Rattle.nl_model.specs.LinearFile.{linear_of}
 use Rattle.linear_fold.specs.FoldedFaults.{first_fold_fault, named_fault}
 use Rattle.linear_program.specs.Numbers.{spread}
 use Rattle.linear_program.specs.Programs.{LinearValue, linear_value}
@@ -28,7 +28,7 @@ use Rattle.mps_model.specs.Mps.{Mps}
 use Rattle.mps_program.specs.Faults.{mps_fault}
 use Rattle.mps_program.specs.Program.{values_of}
 use Rattle.mps_program.specs.declared.mps_fault.MpsFault.{MpsFault}
-use Rattle.tree_text.specs.Rows.{rows_in}
+use Rattle.certificate_text.specs.TextRows.{rows_in}
 use Rattle.certificates.specs.Certificates.{CertificateValue, Given, IsAskedFor, IsCertificateOf, certificate_over, claim_outcome, claim_objective}
 use Rattle.certificates.specs.Reading.{given_in}
 use Rattle.certificates.specs.Setting.{IsSettingOf, Setting, program_setting}
@@ -41,14 +41,14 @@ use Rattle.certificates.proofs.Settings.{certificate_for}
 use Rattle.certificate_text.specs.Reader.{IsCertificateText}
 use Rattle.certificate_text.specs.Written.{AreRowsOf, written_pieces}
 use Rattle.certificate_text.proofs.Files.{text_is_certificate}
-use Rattle.file_certificates.specs.FileProblem.{problem_of}
-use Rattle.file_certificates.specs.Files.{IsCertificateIn}
-use Rattle.file_certificates.proofs.Files.{meant as file_meant}
-use Rattle.file_certificates.proofs.Given.{certificate_of}
-use Rattle.file_certificates.proofs.Settings.{file_setting}
-use Rattle.mps_certificates.specs.Setting.{mps_setting}
-use Rattle.mps_certificates.proofs.Meaning.{mps_means}
-use Rattle.mps_certificates.proofs.Settings.{program_setting as setting_so}
+use Rattle.problems.specs.FileProblem.{problem_of}
+use Rattle.problems.specs.Files.{IsCertificateIn}
+use Rattle.problems.proofs.Files.{meant as file_meant}
+use Rattle.problems.proofs.Given.{certificate_of}
+use Rattle.problems.proofs.NlSettings.{file_setting}
+use Rattle.problems.specs.MpsSetting.{mps_setting}
+use Rattle.problems.proofs.Meaning.{mps_means}
+use Rattle.problems.proofs.MpsSettings.{program_setting as setting_so}
 use Rattle.command_parts.specs.CertificateTold.{HasFittingBound, is_held, objective_text, outcome_line, told_text}
 use Rattle.command_parts.specs.ImportTold.{import_line}
 use Rattle.command_core.specs.InsideAnswer.{IsCounted}
@@ -65,7 +65,10 @@ use Rattle.command_core.proofs.SeveralFiles.{AreRead, IsLast, IsPlain, meant_as,
 use Rattle.command_parts.proofs.TextsRead.{certificate_read, fixed_read, mps_read, nl_read}
 use Rattle.bridge_tool.specs.Claims.{IsClaimDenied, IsClaimTrue}
 use Rattle.bridge_tool.specs.InsideVerify.{GivesProgram, IsProgramOf}
-use Rattle.bridge_tool.specs.Verify.{ClaimRow, HasNoLinear, HasProgram, IsDenied, IsProgramRefused, IsSaidIn, IsTextIn, IsTextRefused, IsVerified, SaysVerified, by_linear, claim_row_of, claim_shown, mps_claim_row, nl_claim_row, no_objective, verify_outcome, verify_promise, verify_read}
+use Rattle.bridge_tool.specs.Verify.{ClaimRow, HasNoLinear, HasProgram, IsDenied, IsProgramRefused, IsSaidIn, IsTextIn}
+use Rattle.bridge_tool.specs.Verify.{IsTextRefused, IsVerified, SaysVerified, by_linear, claim_row_of, claim_shown}
+use Rattle.bridge_tool.specs.Verify.{mps_claim_row, nl_claim_row, no_objective, verify_outcome, verify_promise}
+use Rattle.bridge_tool.specs.Verify.{verify_read}
 use Rattle.bridge_tool.specs.declared.verify.ProblemText.{ProblemText}
 use Rattle.bridge_tool.specs.declared.verify.ProblemText.TheVariants.{Mps as MpsIn, Nl}
 use Rattle.bridge_tool.specs.declared.verify_mps.Layout.{Layout}
@@ -104,7 +107,8 @@ program_read layout = record {
     one text a b (inr h) (inl k) = absurd (d.apart text h.0 b h.1.0 k)
     one text a b (inr h) (inr k) = one_line h.0 k.0 a b (d.said text h.0 k.0 h.1.0 k.1.0) h.1.1 k.1.1
 
-    by : (text : List ℕ) (m : Mps Dec) → IsTextIn layout text m → (o : Option MpsFault) → mps_fault m ≡ o → ((n : Mps Dec) × HasProgram layout text n) ⊎ ((line : List ℕ) × IsProgramRefused layout text line)
+    by : (text : List ℕ) (m : Mps Dec) → IsTextIn layout text m → (o : Option MpsFault) → mps_fault m ≡ o
+        → ((n : Mps Dec) × HasProgram layout text n) ⊎ ((line : List ℕ) × IsProgramRefused layout text line)
     by text m says None e = inl (m, record { says = says; clean = e })
     by text m says (Some fault) e = inr (import_line fault, inr (m, (says, record { fault = fault; first = e; told = refl })))
 
@@ -127,7 +131,9 @@ module _ (layout : Layout) (file : List ℕ) (old new : Meaning) where
   ended_by other h = absurd h
 
   -- its text ends the command
-  pub text_ended : (answer : Answer) → ReadsFile {R = Mps Dec} itself (IsTextIn layout) (IsTextRefused layout) file old new (Err answer) → ReadsFile {R = Mps Dec} itself (HasProgram layout) (IsProgramRefused layout) file old new (Err answer)
+  pub text_ended : (answer : Answer) → ReadsFile {R = Mps Dec} itself (IsTextIn layout) (IsTextRefused layout) file old
+      new (Err answer) → ReadsFile {R = Mps Dec} itself (HasProgram layout) (IsProgramRefused layout) file old new
+      (Err answer)
   text_ended answer h = record { rest = h.rest; later = h.later; judged = ended_by answer h.judged }
 
   module _ (m : Mps Dec) (h : ReadsFile {R = Mps Dec} itself (IsTextIn layout) (IsTextRefused layout) file old new (Ok m)) where
@@ -143,7 +149,9 @@ module _ (layout : Layout) (file : List ℕ) (old new : Meaning) where
     ended_with (Err Memory) answer gives same = no_memory answer (same_answer answer NoMemory (Err answer) refl same)
 
     -- its program ends it
-    pub program_ended : (judged : Result LinearValue (Stop Refusal)) (answer : Answer) → GivesProgram m judged → Answered judged (Err answer) → ReadsFile {R = Mps Dec} itself (HasProgram layout) (IsProgramRefused layout) file old new (Err answer)
+    pub program_ended : (judged : Result LinearValue (Stop Refusal)) (answer : Answer) → GivesProgram m judged
+        → Answered judged (Err answer) → ReadsFile {R = Mps Dec} itself (HasProgram layout) (IsProgramRefused layout) file
+        old new (Err answer)
     program_ended judged answer gives same = record { rest = h.rest; later = h.later; judged = ended_with judged answer gives same }
 
     -- it has a linear program
@@ -183,7 +191,9 @@ claimed Nl = record {
   idle = λ nl k n. omega arith;
   states = λ text nl k (h : IsNl text nl). ap (λ f. problem_of f k) h.said.file;
   over = λ nl k. file_setting nl.file k;
-  means = λ text nl k h none. file_meant nl.file k (text_file text nl h) (none_mapped (named_fault nl.file) (fold_fault nl.file k) (none_mapped (fold_line nl.places) (first_fold_fault nl.file k) none));
+  means = λ text nl k h none. file_meant nl.file k (text_file text nl h)
+      (none_mapped (named_fault nl.file) (fold_fault nl.file k)
+      (none_mapped (fold_line nl.places) (first_fold_fault nl.file k) none));
 }
 claimed (MpsIn layout) = record {
   read = program_read layout;
@@ -236,7 +246,9 @@ module _ (f : Linear) (c : CertificateValue) (h : IsCertificateOf f c) where
         (subst (λ m. Says (variable_count f) m h.given (claim_outcome f c.claim h.given)) (sym means.constraints) (says (claim_outcome f c.claim h.given) refl)))
 
     -- so its line means what it should
-    pub line_so : (outcome : Outcome) (o : ClaimOutcome) → claim_shown f c ≡ o → outcome ≡ by_linear c o None → ByVerdict (is_held o) (IsClaimTrue p c.claim (given_in c) (outcome_line c.claim o)) (IsClaimDenied p f c outcome)
+    pub line_so : (outcome : Outcome) (o : ClaimOutcome) → claim_shown f c ≡ o → outcome ≡ by_linear c o None
+        → ByVerdict (is_held o) (IsClaimTrue p c.claim (given_in c) (outcome_line c.claim o))
+        (IsClaimDenied p f c outcome)
     line_so outcome (holds value) shown is =
         let so : Says p.variables p.constraints (given_in c) (holds value) = subst (Says p.variables p.constraints (given_in c)) shown says_so in
         record { told = so.told; line = ap (λ (t : Option Told). option_map_or told_text t [] ++ objective_text (claim_objective c.claim) ++ codes "\n") so.is_told; true_of = so.true_of }
@@ -255,7 +267,8 @@ module _ (row : ClaimRow) (d : IsClaimed row) where
     certificate_so : IsCertificateOf (row.linear value k) c
     certificate_so = certificate_for (row.linear value k) (row.setting value) (d.over value k) c (text_is_certificate (row.setting value) given c certifies).is
 
-    means_so : (o : Option (List ℕ)) → row.no_linear value k ≡ o → (held : Bool) (bytes : List ℕ) → Done held bytes ≡ by_linear c shown o → ByVerdict held (IsVerified row value c bytes) (IsDenied row value c)
+    means_so : (o : Option (List ℕ)) → row.no_linear value k ≡ o → (held : Bool) (bytes : List ℕ)
+        → Done held bytes ≡ by_linear c shown o → ByVerdict held (IsVerified row value c bytes) (IsDenied row value c)
     means_so None none held bytes done =
         let yes : held ≡ is_held shown = cc in
         let line : bytes ≡ outcome_line c.claim shown = cc in
@@ -265,7 +278,9 @@ module _ (row : ClaimRow) (d : IsClaimed row) where
     means_so (Some line) some held bytes done = absurd cc
 
     -- a verdict means what it should
-    pub claim_meant : (judged : Result (Bool × Vec ℕ) (Stop Refusal)) → Comes (λ outcome. outcome ≡ verify_outcome row value c) judged → IfOk judged (λ t. ByVerdict t.0 (IsVerified row value c t.1.items) (IsDenied row value c))
+    pub claim_meant : (judged : Result (Bool × Vec ℕ) (Stop Refusal))
+        → Comes (λ outcome. outcome ≡ verify_outcome row value c) judged
+        → IfOk judged (λ t. ByVerdict t.0 (IsVerified row value c t.1.items) (IsDenied row value c))
     claim_meant (Ok t) comes = means_so (row.no_linear value k) refl t.0 t.1.items comes
     claim_meant (Err stop) comes = tt
 
@@ -273,7 +288,9 @@ module _ (row : ClaimRow) (d : IsClaimed row) where
   plain c o None = tt
   plain c o (Some line) = tt
 
-  pub claim_last : (value : row.Value) → IsLast true (IsCertificateText (row.setting value)) (IsCertificateRefused (row.setting value) 2) (λ c outcome. outcome ≡ verify_outcome row value c) (λ c. row.counts value (claim_objective c.claim))
+  pub claim_last : (value : row.Value) → IsLast true (IsCertificateText (row.setting value))
+      (IsCertificateRefused (row.setting value) 2) (λ c outcome. outcome ≡ verify_outcome row value c)
+      (λ c. row.counts value (claim_objective c.claim))
   claim_last value = record {
     read = certificate_read (row.setting value) 2;
     one = λ c. same_one (verify_outcome row value c) (plain c (claim_shown (row.linear value (claim_objective c.claim)) c) (row.no_linear value (claim_objective c.claim)));
@@ -296,7 +313,9 @@ module _ (row : ClaimRow) (d : IsClaimed row) where
           verified = two.1.1;
         }
 
-    pub claim_counted : {old new : Meaning} {m n : ℕ} {answer : Answer} (t : Option Texts) → IsCounted (desk_promise true (verify_read row first certificate) t) old new m n answer → IsCounted (verify_promise t row first certificate) old new m n answer
+    pub claim_counted : {old new : Meaning} {m n : ℕ} {answer : Answer} (t : Option Texts)
+        → IsCounted (desk_promise true (verify_read row first certificate) t) old new m n answer
+        → IsCounted (verify_promise t row first certificate) old new m n answer
     claim_counted t = meant_as true (verify_read row first certificate) (λ texts. SaysVerified row.states texts first certificate) t yes_says
 
 -- ---- what the code answers
@@ -310,10 +329,12 @@ module _ (nl : NlValue) (c : CertificateValue) (given : IsCertificateIn nl.file 
   pub claim_done : (held : Bool) (bytes : List ℕ) → Done held bytes ≡ by_linear c (claim_shown (linear_value l) c) None → Done held bytes ≡ verify_outcome nl_claim_row nl c
   claim_done held bytes told =
       told ∙ ap (λ (g : Linear). by_linear c (claim_shown g c) None) folds.linear
-      ∙ sym (ap (λ (o : Option FoldFault). by_linear c (claim_shown (linear_of nl.file (claim_objective c.claim)) c) (option_map (fold_line nl.places) (option_map (named_fault nl.file) o))) folds.fine)
+      ∙ sym (ap (λ (o : Option FoldFault). by_linear c (claim_shown (linear_of nl.file (claim_objective c.claim)) c)
+      (option_map (fold_line nl.places) (option_map (named_fault nl.file) o))) folds.fine)
 
 module _ (c : CertificateValue) (shown : ClaimOutcome) (k : ℕ) (same : k ≡ claim_objective c.claim) where
-  by_number : (b : Bool) → nat_lt 0 k ≡ b → by_linear c shown (no_objective (claim_objective c.claim)) ≡ by_linear c shown (if b then Some (refusal 1 (codes "objective") k (codes "no such objective")) else None)
+  by_number : (b : Bool) → nat_lt 0 k ≡ b → by_linear c shown (no_objective (claim_objective c.claim))
+      ≡ by_linear c shown (if b then Some (refusal 1 (codes "objective") k (codes "no such objective")) else None)
   by_number b e =
       let line : List ℕ = refusal 1 (codes "objective") k (codes "no such objective") in
       subst (λ (n : ℕ). by_linear c shown (no_objective n) ≡ by_linear c shown (if b then Some line else None)) same (ap (λ (t : Bool). by_linear c shown (if t then Some line else None)) e)
@@ -327,12 +348,16 @@ module _ (c : CertificateValue) (shown : ClaimOutcome) (k : ℕ) (same : k ≡ c
 
 module _ (m : Mps Dec) (l : LinearValue) (is : IsProgramOf m l) where
   -- the setting of the linear program is that of the program
-  pub opened_as : (file : List ℕ) (old new : Meaning) (result : Result CertificateValue Answer) → ReadsFile {R = CertificateValue} itself (IsCertificateText (program_setting l)) (IsCertificateRefused (program_setting l) 2) file old new result
+  pub opened_as : (file : List ℕ) (old new : Meaning) (result : Result CertificateValue Answer)
+      → ReadsFile {R = CertificateValue} itself (IsCertificateText (program_setting l))
+      (IsCertificateRefused (program_setting l) 2) file old new result
       → ReadsFile {R = CertificateValue} itself (IsCertificateText (mps_setting m)) (IsCertificateRefused (mps_setting m) 2) file old new result
   opened_as file old new result h =
       let same : program_setting l ≡ mps_setting m = (let a = is.rows in let b = is.kinds in rw (a, b) refl) in
       subst (λ (s : Setting). ReadsFile {R = CertificateValue} itself (IsCertificateText s) (IsCertificateRefused s 2) file old new result) same h
 
   -- what its linear program comes to is what it does
-  pub comes_as : (layout : Layout) (c : CertificateValue) (judged : Result (Bool × Vec ℕ) (Stop Refusal)) → Comes (λ outcome. outcome ≡ by_linear c (claim_shown (linear_value l) c) (no_objective (claim_objective c.claim))) judged → Comes (λ outcome. outcome ≡ verify_outcome (mps_claim_row layout) m c) judged
+  pub comes_as : (layout : Layout) (c : CertificateValue) (judged : Result (Bool × Vec ℕ) (Stop Refusal))
+      → Comes (λ outcome. outcome ≡ by_linear c (claim_shown (linear_value l) c) (no_objective (claim_objective c.claim)))
+      judged → Comes (λ outcome. outcome ≡ verify_outcome (mps_claim_row layout) m c) judged
   comes_as layout c judged comes = subst (λ (g : Linear). Comes (λ outcome. outcome ≡ by_linear c (claim_shown g c) (no_objective (claim_objective c.claim))) judged) is.linear comes

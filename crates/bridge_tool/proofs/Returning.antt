@@ -1,15 +1,15 @@
 -- What an answer for a file comes to: one outcome, and what the duals mean.
 use Rattle.std.proofs.Common.{[], ◌≡◌, ◌∙◌, inl, inr, ◌⊎◌, ℕ, ℤ, ◌+◌, ◌≤◌, List, Bool, true, false, None, is_some, refl, sym, ap, subst}
 use Rattle.std.specs.List.{list_any}
-use Rattle.desk.specs.Desk.{Texts}
+use Rattle.text_base.specs.Desk.{Texts}
 use Rattle.exact_numbers.specs.declared.dec.Dec.{Dec}
-use Rattle.file_meaning.specs.FoldFaults.{fold_fault}
+use Rattle.nl_model.specs.FoldFaults.{fold_fault}
 use Rattle.linear_program.specs.Programs.{LinearValue, linear_value}
 use Rattle.nl_model.specs.declared.header_counts.Counts.{Counts}
 use Rattle.nl_model.specs.Rules.{IsFile}
 use Rattle.nl_segments.specs.Grammar.{NlValue}
-use Rattle.scaling.specs.Scaled.{ScaledValue}
-use Rattle.scaling.specs.Scaling.{IsScaledOf}
+use Rattle.row_scaling.specs.Scaled.{ScaledValue}
+use Rattle.row_scaling.specs.Scaling.{IsScaledOf}
 use Rattle.sol_files.specs.Sol.{Sol}
 use Rattle.sol_files.specs.Written.{sol_text}
 use Rattle.answer_file.specs.Grammar.{AnswerValue}
@@ -46,7 +46,9 @@ module _ (nl : NlValue) (a : AnswerValue) where
   one_line x y (inr h) (inl k) = absurd (staged_or_not nl a.objective h.staged y k)
   one_line x y (inr h) (inr k) = h.first.told ∙ ap return_line ((one-return nl.file a).one_fault h.first.fault k.first.fault h.first.first k.first.first) ∙ sym k.first.told
 
-  by_return : CanBeExported nl a.objective → ((s : Sol) × IsReturn nl.file a s) ⊎ ((fault : ReturnFault) × HasReturnFault nl.file a fault) → ((bytes : List ℕ) × IsReturned nl a bytes) ⊎ ((line : List ℕ) × IsReturnRefused nl a line)
+  by_return : CanBeExported nl a.objective → ((s : Sol) × IsReturn nl.file a s) ⊎
+      ((fault : ReturnFault) × HasReturnFault nl.file a fault)
+      → ((bytes : List ℕ) × IsReturned nl a bytes) ⊎ ((line : List ℕ) × IsReturnRefused nl a line)
   by_return is (inl s) = inl (sol_text s.0, record { staged = is; sol = s.0; returned = s.1; written = refl })
   by_return is (inr w) = inr (return_line w.0, inr (record { staged = is; first = record { fault = w.0; first = w.1; told = refl } }))
 
@@ -64,7 +66,9 @@ module _ (nl : NlValue) (a : AnswerValue) (n : ℕ) (same : n ≡ a.objective) w
   staged_by l s folds scales = staged_so nl a.objective l (folded_at nl n a.objective l same folds) s scales
 
   -- the answer is one for the file, and its program is scaled so
-  pub answered : (counts : Counts) (options : List ℤ) (l : LinearValue) (s : ScaledValue) → counts ≡ nl.file.counts → options ≡ nl.file.options → IsAnswerFor nl.file a → HasFolded nl n l → HasScaled (linear_value l) s → IsAnswered counts options s a nl.file
+  pub answered : (counts : Counts) (options : List ℤ) (l : LinearValue) (s : ScaledValue) → counts ≡ nl.file.counts
+      → options ≡ nl.file.options → IsAnswerFor nl.file a → HasFolded nl n l → HasScaled (linear_value l) s
+      → IsAnswered counts options s a nl.file
   answered counts options l s head first made folds scales =
       record { counts_are = head; options_are = first; answer = made; scaled = subst (λ f. IsScaledOf f s) (folded_at nl n a.objective l same folds).linear scales.scaled }
 

@@ -1,21 +1,23 @@
 -- What a .sol text, a proof text and a certificate show of an .nl text: one outcome, and what each verdict means.
-use Rattle.std.proofs.Common.{◌≡◌, ◌∙◌, inl, inr, ℕ, ◌+◌, ◌≤◌, ◌==◌, ℤ, pos, negsuc, Bool, true, false, List, length, if◌then◌else◌, Option, Some, None, Result, Ok, Err, refl, sym, ap, ap₂, subst, arith, is_none}
+use Rattle.std.proofs.Common.{◌≡◌, ◌∙◌, inl, inr, ℕ, ◌+◌, ◌≤◌, ◌==◌, ℤ, pos, negsuc, Bool, true, false, List, length}
+use Rattle.std.proofs.Common.{if◌then◌else◌, Option, Some, None, Result, Ok, Err, refl, sym, ap, ap₂, subst, arith}
+use Rattle.std.proofs.Common.{is_none}
 use Rattle.std.specs.Prelude.{◌&&◌, nat_lt, option_map, IfOk}
 use Rattle.std.specs.Global.{Vec}
 use Rattle.std.proofs.lemmas.Bool.{eqb-true, ltb-false, and_parts}
-use Rattle.duality.specs.ProblemSays.{VerdictSays}
-use Rattle.duality.specs.Verdict.{Verdict, verdict, yes, gap, refused}
-use Rattle.program_meaning.specs.Linear.{row_count, variable_count, Linear}
-use Rattle.texts.specs.declared.stop.Stop.{Stop}
+use Rattle.certificates.specs.ProblemSays.{VerdictSays}
+use Rattle.certificates.specs.Verdict.{Verdict, verdict, yes, gap, refused}
+use Rattle.linear_program.specs.Linear.{row_count, variable_count, Linear}
+use Rattle.text_base.specs.declared.stop.Stop.{Stop}
 use Rattle.exact_checks.specs.Terms.{values_of}
-use Rattle.solution_fit.specs.declared.fitting.FitFault.{FitFault}
-use Rattle.solution_fit.specs.declared.fitting.FitFault.TheVariants.{OtherCounts, NoPrimal, NoDual}
-use Rattle.file_certificates.specs.FileProblem.{problem_of}
-use Rattle.file_certificates.proofs.Verdicts.{file_leaf, file_verdicts}
-use Rattle.file_meaning.specs.FoldFaults.{fold_fault, FoldFault as FileFault}
-use Rattle.file_meaning.specs.LinearFile.{linear_of, linear_row}
-use Rattle.program_meaning.proofs.Elements.{elements_length}
-use Rattle.file_meaning.proofs.Files.{count_lem}
+use Rattle.certificate_check.specs.declared.fitting.FitFault.{FitFault}
+use Rattle.certificate_check.specs.declared.fitting.FitFault.TheVariants.{OtherCounts, NoPrimal, NoDual}
+use Rattle.problems.specs.FileProblem.{problem_of}
+use Rattle.problems.proofs.Verdicts.{file_leaf, file_verdicts}
+use Rattle.nl_model.specs.FoldFaults.{fold_fault, FoldFault as FileFault}
+use Rattle.nl_model.specs.LinearFile.{linear_of, linear_row}
+use Rattle.linear_program.proofs.Elements.{elements_length}
+use Rattle.nl_model.proofs.Files.{count_lem}
 use Rattle.linear_fold.specs.FoldedFaults.{first_fold_fault, named_fault}
 use Rattle.linear_program.specs.Programs.{LinearValue, linear_value}
 use Rattle.linear_fold.specs.declared.fold_fault.FoldFault.{FoldFault}
@@ -34,18 +36,18 @@ use Rattle.command_parts.specs.VerdictTold.{is_yes, verdict_line}
 use Rattle.command_core.proofs.SeveralFiles.{IsPlain, IsLast, verdict_last}
 use Rattle.command_parts.proofs.TextsRead.{proof_read, sol_read}
 use Rattle.command_core.specs.declared.refused.Refusal.{Refusal}
-use Rattle.duality.specs.Branch.{LeafFault, proof_fault}
-use Rattle.branch_check.specs.declared.verdict.ProofVerdict.{ProofVerdict}
-use Rattle.branch_check.specs.declared.verdict.ProofVerdict.TheVariants.{Yes}
-use Rattle.file_certificates.specs.Files.{IsProofIn}
-use Rattle.branch_check.specs.Leaves.{IsProved, IsVerdictOn, fault_of}
+use Rattle.certificates.specs.Branch.{LeafFault, proof_fault}
+use Rattle.branch_proof.specs.declared.verdict.ProofVerdict.{ProofVerdict}
+use Rattle.branch_proof.specs.declared.verdict.ProofVerdict.TheVariants.{Yes}
+use Rattle.problems.specs.Files.{IsProofIn}
+use Rattle.branch_proof.specs.Leaves.{IsProved, IsVerdictOn, fault_of}
 use Rattle.certificates.specs.Proofs.{IsProofOf, ProofTree, ProofValue, claim_value, tree_over}
 use Rattle.certificates.specs.ProofReading.{tree_in}
 use Rattle.bridge_tool.proofs.ProofClaims.{claim_true as proof_true}
-use Rattle.file_certificates.proofs.ProofFiles.{proof_of}
+use Rattle.problems.proofs.ProofFiles.{proof_of}
 use Rattle.certificates.proofs.ProofReading.{tree_back}
-use Rattle.proof_text.specs.Reader.{IsProofText}
-use Rattle.file_certificates.specs.Setting.{setting_of as certificate_setting}
+use Rattle.branch_proof.specs.Reader.{IsProofText}
+use Rattle.problems.specs.NlSetting.{setting_of as certificate_setting}
 use Rattle.command_parts.specs.ProofTold.{leaf_line}
 use Rattle.bridge_tool.specs.Prove.{IsLeftOpen, IsProvedOf, by_fold as by_proof_fold, by_leaf, claimed_objective, open_leaf, prove_outcome}
 
@@ -77,7 +79,8 @@ full n given (inl empty) e = let le : n ≤ given = ltb-false given n e in omega
 full n given (inr is) e = is
 
 module _ (nl : NlValue) (s : Sol) (fits : unfit nl s ≡ None) where
-  tests : (((nl.file.counts.n_con == s.n_con) && (nl.file.counts.n_var == s.n_var)) ≡ true) × (nat_lt (length s.primals) nl.file.counts.n_var ≡ false) × (nat_lt (length s.duals) nl.file.counts.n_con ≡ false)
+  tests : (((nl.file.counts.n_con == s.n_con) && (nl.file.counts.n_var == s.n_var)) ≡ true)
+      × (nat_lt (length s.primals) nl.file.counts.n_var ≡ false) × (nat_lt (length s.duals) nl.file.counts.n_con ≡ false)
   tests = same_counts _ _ _ fits
 
   same : (nl.file.counts.n_con ≡ s.n_con) × (nl.file.counts.n_var ≡ s.n_var)
@@ -111,7 +114,9 @@ module _ (nl : NlValue) (s : Sol) (file : IsFile nl.file) where
     line_of v is = ap (by_fit nl s) fits ∙ ap (by_number nl s) number ∙ ap (by_fold nl s k) folds ∙ ap by_verdict is
 
     told_says : (v : Verdict) → shown nl s k ≡ v → VerdictSays (problem_of nl.file k) (values_of s.primals) v
-    told_says v is = subst (VerdictSays (problem_of nl.file k) (values_of s.primals)) is (file_verdicts nl.file k file (no_fault nl.file (fold_fault nl.file k) folds) (values_of s.primals) (values_of s.duals))
+    told_says v is = subst (VerdictSays (problem_of nl.file k) (values_of s.primals)) is
+        (file_verdicts nl.file k file (no_fault nl.file (fold_fault nl.file k) folds) (values_of s.primals)
+        (values_of s.duals))
 
     by_told : (v : Verdict) → shown nl s k ≡ v → Says (is_yes v)
     by_told (yes x) is = record { number = k; value = x; objective = number; line = line_of (yes x) is; best = told_says (yes x) is }
@@ -154,9 +159,13 @@ module _ (nl : NlValue) (p : ProofValue) where
   plain_proof None = tt
   plain_proof (Some fault) = tt
 
-pub prove_last : (nl : NlValue) → IsLast true (IsProofText (certificate_setting nl.file)) (IsProofRefused (certificate_setting nl.file) 2) (λ p outcome. outcome ≡ prove_outcome nl p) (λ p old new. new ≤ old + fold_steps nl (claimed_objective p.claim))
+pub prove_last : (nl : NlValue) → IsLast true (IsProofText (certificate_setting nl.file))
+    (IsProofRefused (certificate_setting nl.file) 2) (λ p outcome. outcome ≡ prove_outcome nl p)
+    (λ p old new. new ≤ old + fold_steps nl (claimed_objective p.claim))
 prove_last nl =
-    verdict_last (proof_read (certificate_setting nl.file) 2) (prove_outcome nl) (λ p. fold_steps nl (claimed_objective p.claim)) (λ p. plain_proof nl p (first_fold_fault nl.file (claimed_objective p.claim)))
+    verdict_last (proof_read (certificate_setting nl.file) 2) (prove_outcome nl)
+    (λ p. fold_steps nl (claimed_objective p.claim)) (λ p. plain_proof nl p
+    (first_fold_fault nl.file (claimed_objective p.claim)))
 
 -- ---- what the code answers
 
@@ -185,17 +194,27 @@ module _ (nl : NlValue) (p : ProofValue) (given : IsProofIn nl.file p) where
       on h ∙ ap (λ (tree : ProofTree). proof_fault folded (claim_value p.claim) (tree_over (row_count folded) tree)) (tree_so h)
 
   -- the file folds, and the verdict is told
-  pub proof_done : (l : LinearValue) (v : ProofVerdict) (held : Bool) (bytes : List ℕ) → HasFolded nl claimed l → IsVerdictOn (linear_value l) p v → held ≡ is_none (fault_of v) → bytes ≡ leaf_line (fault_of v)
+  pub proof_done : (l : LinearValue) (v : ProofVerdict) (held : Bool) (bytes : List ℕ) → HasFolded nl claimed l
+      → IsVerdictOn (linear_value l) p v → held ≡ is_none (fault_of v) → bytes ≡ leaf_line (fault_of v)
       → Done held bytes ≡ prove_outcome nl p
   proof_done l v held bytes folds exact h b =
       ap₂ Done h b ∙ ap by_leaf (leaf_so l v folds exact) ∙ sym (ap (by_proof_fold nl p) (ap (option_map (named_fault nl.file)) folds.fine))
 
   -- a verdict means what it should
-  proved_by : (o : Option LeafFault) (v : ProofVerdict) → fault_of v ≡ o → IsFile nl.file → fold_fault nl.file claimed ≡ None → IsProved folded p.claim v → open_leaf nl p ≡ o → prove_outcome nl p ≡ by_leaf o → ByVerdict (is_none o) (IsProvedOf nl p) (IsLeftOpen nl p)
+  proved_by : (o : Option LeafFault) (v : ProofVerdict) → fault_of v ≡ o → IsFile nl.file
+      → fold_fault nl.file claimed ≡ None → IsProved folded p.claim v → open_leaf nl p ≡ o
+      → prove_outcome nl p ≡ by_leaf o → ByVerdict (is_none o) (IsProvedOf nl p) (IsLeftOpen nl p)
   proved_by None v none file fine proved first line = proof_true nl.file claimed file fine p.claim (subst (λ (w : ProofVerdict). IsProved folded p.claim w) (yes_of v (ap is_none none)) proved)
-  proved_by (Some fault) v some file fine proved first line = record { fault = fault; line = line; denies = file_leaf nl.file claimed file fine (claim_value p.claim) (tree_over (row_count folded) (tree_in p)) fault first }
+  proved_by (Some fault) v some file fine proved first line =
+      record {
+        fault = fault;
+        line = line;
+        denies = file_leaf nl.file claimed file fine (claim_value p.claim)
+            (tree_over (row_count folded) (tree_in p)) fault first;
+      }
 
-  pub proof_says : (l : LinearValue) (v : ProofVerdict) (held : Bool) (bytes : List ℕ) → IsFile nl.file → HasFolded nl claimed l → IsVerdictOn (linear_value l) p v → IsProved (linear_value l) p.claim v
+  pub proof_says : (l : LinearValue) (v : ProofVerdict) (held : Bool) (bytes : List ℕ) → IsFile nl.file
+      → HasFolded nl claimed l → IsVerdictOn (linear_value l) p v → IsProved (linear_value l) p.claim v
       → held ≡ is_none (fault_of v) → bytes ≡ leaf_line (fault_of v) → ByVerdict held (IsProvedOf nl p) (IsLeftOpen nl p)
   proof_says l v held bytes file folds exact proved h b =
       let line : prove_outcome nl p ≡ by_leaf (fault_of v) = sym (proof_done l v (is_none (fault_of v)) (leaf_line (fault_of v)) folds exact refl refl) in

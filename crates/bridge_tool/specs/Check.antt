@@ -3,22 +3,22 @@ use Rattle.std.specs.Prelude.{◌≡◌, ℕ, ◌+◌, ◌≤◌, ℤ, pos, negs
 use Rattle.std.specs.Option.{option_map_or}
 use Rattle.std.specs.declared.option.Option.{Option}
 use Rattle.std.specs.declared.option.Option.TheVariants.{None, Some}
-use Rattle.fractions.specs.Rational.{ℚ}
-use Rattle.duality.specs.Problem.{IsBestRelaxed}
-use Rattle.duality.specs.ProblemSays.{VerdictSays}
-use Rattle.duality.specs.Verdict.{Verdict, verdict, yes}
-use Rattle.desk.specs.Desk.{Texts}
-use Rattle.file_meaning.specs.LinearFile.{linear_of}
+use Rattle.exact_numbers.specs.Rational.{ℚ}
+use Rattle.certificates.specs.Problem.{IsBestRelaxed}
+use Rattle.certificates.specs.ProblemSays.{VerdictSays}
+use Rattle.certificates.specs.Verdict.{Verdict, verdict, yes}
+use Rattle.text_base.specs.Desk.{Texts}
+use Rattle.nl_model.specs.LinearFile.{linear_of}
 use Rattle.linear_fold.specs.FoldedFaults.{first_fold_fault}
 use Rattle.linear_fold.specs.declared.fold_fault.FoldFault.{FoldFault}
 use Rattle.nl_segments.specs.Grammar.{NlValue}
 use Rattle.nl_segments.specs.Reader.{IsNl}
 use Rattle.sol_files.specs.Reader.{IsSol}
 use Rattle.sol_files.specs.Sol.{Sol}
-use Rattle.file_certificates.specs.FileProblem.{problem_of}
-use Rattle.solution_fit.specs.Fits.{fit_fault, given_by}
+use Rattle.problems.specs.FileProblem.{problem_of}
+use Rattle.certificate_check.specs.Fits.{fit_fault, given_by}
 use Rattle.exact_checks.specs.Terms.{values_of}
-use Rattle.solution_fit.specs.declared.fitting.FitFault.{FitFault}
+use Rattle.certificate_check.specs.declared.fitting.FitFault.{FitFault}
 use Rattle.command_parts.specs.NlTold.{fold_line}
 use Rattle.command_core.specs.Outcome.{Outcome, Refused, Done}
 use Rattle.command_core.specs.Promise.{Promise}

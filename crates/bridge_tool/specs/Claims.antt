@@ -1,10 +1,10 @@
 -- What the verdict on a certificate means of the problem that it is about.
 use Rattle.std.specs.Prelude.{◌≡◌, ℕ, false, List}
-use Rattle.program_meaning.specs.Linear.{Linear}
-use Rattle.duality.specs.Certificate.{Cause, fails}
-use Rattle.duality.specs.Problem.{Problem}
-use Rattle.duality.specs.ProblemSays.{Denies}
-use Rattle.duality.specs.Told.{Told, IsTrueOf}
+use Rattle.linear_program.specs.Linear.{Linear}
+use Rattle.certificates.specs.Certificate.{Cause, fails}
+use Rattle.certificates.specs.Problem.{Problem}
+use Rattle.certificates.specs.ProblemSays.{Denies}
+use Rattle.certificates.specs.ToldMeaning.{Told, IsTrueOf}
 use Rattle.linear_program.specs.Numbers.{spread}
 use Rattle.certificates.specs.Certificates.{CertificateValue, Given, certificate_over}
 use Rattle.certificates.specs.Reading.{given_in}

@@ -2,7 +2,7 @@
 use Rattle.std.specs.Prelude.{◌≡◌, ℕ, List}
 use Rattle.std.specs.declared.option.Option.{Option}
 use Rattle.std.specs.declared.option.Option.TheVariants.{None, Some}
-use Rattle.desk.specs.Desk.{Texts, Meaning}
+use Rattle.text_base.specs.Desk.{Texts, Meaning}
 use Rattle.bridge_tool.specs.Command.{Command, Check, Export, Rewrite, command_of, Prove, Verify, Make, Return, NamedExport, NamedReturn}
 use Rattle.bridge_tool.specs.Check.{check_promise}
 use Rattle.bridge_tool.specs.Export.{export_promise}

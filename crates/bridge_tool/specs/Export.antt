@@ -1,20 +1,20 @@
 -- The command export: what an .nl text is exported as, and that this means the same.
 use Rattle.std.specs.Prelude.{◌≡◌, ◌↔◌, ℕ, ◌+◌, ◌≤◌, false, List, [], ◌∷◌, ◌++◌, length, Some}
 use Rattle.std.specs.declared.option.Option.{Option}
-use Rattle.fractions.specs.Rational.{ℚ}
+use Rattle.exact_numbers.specs.Rational.{ℚ}
 use Rattle.exact_numbers.specs.Values.{value_text}
 use Rattle.scaled_program.specs.Fits.{IsDecimal, IsScaledProgramOf}
 use Rattle.scaled_program.specs.Program.{ScaledProgram}
-use Rattle.exported_program.specs.Program.{mps_of}
-use Rattle.file_meaning.specs.Expressions.{maximises}
-use Rattle.file_meaning.specs.LinearFile.{linear_of}
-use Rattle.file_meaning.specs.Meaning.{IsFeasible, file_objective}
+use Rattle.scaled_program.specs.ExportedProgram.{mps_of}
+use Rattle.nl_model.specs.Expressions.{maximises}
+use Rattle.nl_model.specs.LinearFile.{linear_of}
+use Rattle.nl_model.specs.Meaning.{IsFeasible, file_objective}
 use Rattle.mps_model.specs.Mps.{Mps, IsMpsFeasible, mps_objective}
 use Rattle.mps_model.specs.Text.{mps_text_by}
 use Rattle.nl_model.specs.File.{File}
 use Rattle.nl_segments.specs.Grammar.{NlValue}
 use Rattle.nl_segments.specs.Reader.{IsNl}
-use Rattle.desk.specs.Desk.{Texts}
+use Rattle.text_base.specs.Desk.{Texts}
 use Rattle.command_core.specs.Outcome.{DoneOrRefused, Outcome}
 use Rattle.command_core.specs.Promise.{Promise}
 use Rattle.command_parts.specs.Refusal.{HasTextRefusal}

@@ -2,10 +2,10 @@
 use Rattle.std.specs.Prelude.{◌≡◌, ◌↔◌, ℕ, true, List}
 use Rattle.std.specs.declared.option.Option.{Option}
 use Rattle.std.specs.declared.option.Option.TheVariants.{None, Some}
-use Rattle.fractions.specs.Rational.{ℚ}
+use Rattle.exact_numbers.specs.Rational.{ℚ}
 use Rattle.exact_numbers.specs.declared.dec.Dec.{Dec}
-use Rattle.file_meaning.specs.Expressions.{maximises}
-use Rattle.file_meaning.specs.Meaning.{IsFeasible, file_objective}
+use Rattle.nl_model.specs.Expressions.{maximises}
+use Rattle.nl_model.specs.Meaning.{IsFeasible, file_objective}
 use Rattle.mps_model.specs.Mps.{IsMpsFeasible, Mps, mps_objective}
 use Rattle.mps_program.specs.declared.mps_fault.MpsFault.{MpsFault}
 use Rattle.mps_import.specs.Faults.{import_fault}

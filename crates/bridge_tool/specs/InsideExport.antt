@@ -1,6 +1,6 @@
 -- What the functions of the command export hand on: texts that were written.
 use Rattle.std.specs.Prelude.{◌≡◌, ℕ, List}
-use Rattle.fractions.specs.Rational.{ℚ}
+use Rattle.exact_numbers.specs.Rational.{ℚ}
 use Rattle.exact_numbers.specs.Values.{value_text, dec_value}
 use Rattle.exact_numbers.specs.declared.dec.Dec.{Dec}
 use Rattle.mps_model.specs.Mps.{Mps, with_values}

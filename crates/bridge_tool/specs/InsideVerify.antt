@@ -1,6 +1,6 @@
 -- What the linear program of an MPS program is, for the contracts of the command's own functions.
 use Rattle.std.specs.Prelude.{◌≡◌, length, Result, None}
-use Rattle.texts.specs.declared.stop.Stop.{Stop}
+use Rattle.text_base.specs.declared.stop.Stop.{Stop}
 use Rattle.exact_numbers.specs.declared.dec.Dec.{Dec}
 use Rattle.linear_program.specs.Programs.{LinearValue, linear_value}
 use Rattle.mps_model.specs.Mps.{Mps}

@@ -1,8 +1,8 @@
 -- The written texts of the instances that are made from a seed and a size.
 use Rattle.std.specs.Prelude.{ℕ, ◌≤◌}
-use Rattle.instances.specs.Instance.{instance}
+use Rattle.bridge_tool.specs.Instance.{instance}
 use Rattle.nl_writer.specs.Written.{nl_text}
-use Rattle.nl_round_trip.specs.Writable.{IsText, IsWritable}
+use Rattle.round_trips.specs.Writable.{IsText, IsWritable}
 
 -- an instance of at most 20,000 variables can be written: its lines and its text are short enough,
 -- too

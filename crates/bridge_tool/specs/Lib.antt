@@ -1,3 +1,6 @@
+pub mod Draws
+pub mod Instance
+pub mod InsideMaking
 pub mod ByText
 pub mod Check
 pub mod Claims

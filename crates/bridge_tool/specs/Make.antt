@@ -2,14 +2,14 @@
 use Rattle.std.specs.Prelude.{◌≡◌, ◌≢◌, ◌⊎◌, ◌&&◌, Bool, ℕ, ◌+◌, ◌≤◌, List, ◌++◌, nat_le, length, codes}
 use Rattle.std.specs.Fmt.{decimal}
 use Rattle.std.specs.List.{count_by, sum_by}
-use Rattle.fractions.specs.Rational.{ℚ}
-use Rattle.program_meaning.specs.Linear.{Linear}
+use Rattle.exact_numbers.specs.Rational.{ℚ}
+use Rattle.linear_program.specs.Linear.{Linear}
 use Rattle.scaled_program.specs.Program.{is_exported}
-use Rattle.exported_program.specs.Program.{mps_of}
-use Rattle.file_meaning.specs.LinearFile.{linear_of}
-use Rattle.instances.specs.Instance.{instance}
+use Rattle.scaled_program.specs.ExportedProgram.{mps_of}
+use Rattle.nl_model.specs.LinearFile.{linear_of}
+use Rattle.bridge_tool.specs.Instance.{instance}
 use Rattle.linear_fold.specs.FoldedFaults.{step_bound}
-use Rattle.nl_round_trip.specs.Writable.{IsText}
+use Rattle.round_trips.specs.Writable.{IsText}
 use Rattle.exact_numbers.specs.Values.{value_text}
 use Rattle.mps_model.specs.Mps.{Mps, Entry, Column}
 use Rattle.mps_model.specs.Text.{mps_text_by}
@@ -17,7 +17,7 @@ use Rattle.nl_model.specs.File.{File}
 use Rattle.nl_segments.specs.Grammar.{NlValue}
 use Rattle.nl_segments.specs.Reader.{IsNl}
 use Rattle.nl_writer.specs.Written.{nl_text}
-use Rattle.desk.specs.Desk.{Meaning}
+use Rattle.text_base.specs.Desk.{Meaning}
 use Rattle.bridge_tool.specs.Export.{IsExported}
 use Rattle.command_core.specs.Outcome.{DoneOrRefused, Outcome, Refused}
 use Rattle.command_core.specs.Promise.{Promise}

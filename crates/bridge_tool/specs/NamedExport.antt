@@ -4,15 +4,15 @@
 use Rattle.std.specs.Prelude.{◌≡◌, ℕ, ◌+◌, ◌≤◌, false, List}
 use Rattle.std.specs.declared.option.Option.{Option}
 use Rattle.exact_numbers.specs.Values.{value_text}
-use Rattle.file_meaning.specs.LinearFile.{linear_of}
+use Rattle.nl_model.specs.LinearFile.{linear_of}
 use Rattle.mps_model.specs.Text.{mps_text_by}
 use Rattle.name_files.specs.Renamed.{HaveOneMeaning, named}
 use Rattle.nl_segments.specs.Grammar.{NlValue}
 use Rattle.nl_segments.specs.Reader.{IsNl}
 use Rattle.scaled_program.specs.Fits.{IsScaledProgramOf}
 use Rattle.scaled_program.specs.Program.{ScaledProgram}
-use Rattle.exported_program.specs.Program.{mps_of}
-use Rattle.desk.specs.Desk.{Texts}
+use Rattle.scaled_program.specs.ExportedProgram.{mps_of}
+use Rattle.text_base.specs.Desk.{Texts}
 use Rattle.bridge_tool.specs.Export.{MeansTheFile}
 use Rattle.command_parts.specs.NameLists.{after_lists}
 use Rattle.command_core.specs.Outcome.{DoneOrRefused, Outcome}

@@ -2,12 +2,12 @@
 -- says, and an MPS program as the .nl text of a file that means the same.
 use Rattle.std.specs.Prelude.{◌≡◌, ℕ, ◌≤◌, ◌^◌, true, false, List, length}
 use Rattle.std.specs.declared.option.Option.{Option}
-use Rattle.desk.specs.Desk.{Texts}
+use Rattle.text_base.specs.Desk.{Texts}
 use Rattle.exact_numbers.specs.declared.dec.Dec.{Dec}
 use Rattle.mps_model.specs.Mps.{Mps as Program}
 use Rattle.mps_reader.specs.Reader.{IsMpsText}
 use Rattle.mps_reader.specs.Written.{mps_text}
-use Rattle.nl_round_trip.specs.Writable.{IsText}
+use Rattle.round_trips.specs.Writable.{IsText}
 use Rattle.nl_segments.specs.Grammar.{NlValue}
 use Rattle.nl_segments.specs.Reader.{IsNl}
 use Rattle.nl_writer.specs.Written.{nl_text}

@@ -2,11 +2,11 @@
 use Rattle.std.specs.Prelude.{◌≡◌, ℕ, ◌+◌, ◌≤◌, false, true, List, is_none}
 use Rattle.std.specs.declared.option.Option.{Option}
 use Rattle.std.specs.declared.option.Option.TheVariants.{None, Some}
-use Rattle.program_meaning.specs.Linear.{row_count}
-use Rattle.duality.specs.Branch.{LeafFault, proof_fault}
-use Rattle.duality.specs.LeafSays.{IsLeafDenied}
-use Rattle.desk.specs.Desk.{Texts}
-use Rattle.file_meaning.specs.LinearFile.{linear_of}
+use Rattle.linear_program.specs.Linear.{row_count}
+use Rattle.certificates.specs.Branch.{LeafFault, proof_fault}
+use Rattle.certificates.specs.LeafSays.{IsLeafDenied}
+use Rattle.text_base.specs.Desk.{Texts}
+use Rattle.nl_model.specs.LinearFile.{linear_of}
 use Rattle.linear_fold.specs.FoldedFaults.{first_fold_fault}
 use Rattle.linear_fold.specs.declared.fold_fault.FoldFault.{FoldFault}
 use Rattle.nl_segments.specs.Grammar.{NlValue}
@@ -14,11 +14,11 @@ use Rattle.nl_segments.specs.Reader.{IsNl}
 use Rattle.certificates.specs.declared.proof.Claim.{Claim}
 use Rattle.certificates.specs.declared.proof.Claim.TheVariants.{Value, Infeasible}
 use Rattle.certificates.specs.ProofSays.{IsProvedTrueOf}
-use Rattle.file_certificates.specs.FileProblem.{problem_of}
+use Rattle.problems.specs.FileProblem.{problem_of}
 use Rattle.certificates.specs.Proofs.{ProofValue, claim_value, tree_over}
 use Rattle.certificates.specs.ProofReading.{tree_in}
-use Rattle.proof_text.specs.Reader.{IsProofText}
-use Rattle.file_certificates.specs.Setting.{setting_of}
+use Rattle.branch_proof.specs.Reader.{IsProofText}
+use Rattle.problems.specs.NlSetting.{setting_of}
 use Rattle.command_parts.specs.NlTold.{fold_line}
 use Rattle.command_core.specs.Outcome.{Outcome, Refused, Done}
 use Rattle.command_core.specs.Promise.{Promise}

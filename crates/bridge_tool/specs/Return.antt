@@ -1,9 +1,9 @@
 -- The command return: the .sol file of an answer for an .nl file, and that its duals mean what the
 -- answer says. The answer is the second file; all other faults are told as of the first.
 use Rattle.std.specs.Prelude.{◌≡◌, ◌⊎◌, ℕ, ◌+◌, ◌≤◌, false, List, Result}
-use Rattle.texts.specs.declared.stop.Stop.{Stop}
+use Rattle.text_base.specs.declared.stop.Stop.{Stop}
 use Rattle.std.specs.declared.option.Option.{Option}
-use Rattle.desk.specs.Desk.{Texts}
+use Rattle.text_base.specs.Desk.{Texts}
 use Rattle.nl_segments.specs.Grammar.{NlValue}
 use Rattle.nl_segments.specs.Reader.{IsNl}
 use Rattle.sol_files.specs.Sol.{Sol}

@@ -3,13 +3,13 @@
 use Rattle.std.specs.Prelude.{◌≡◌, ◌⊎◌, ℕ, ◌+◌, ◌≤◌, nat_lt, if◌then◌else◌, true, List, codes, option_map}
 use Rattle.std.specs.declared.option.Option.{Option}
 use Rattle.std.specs.declared.option.Option.TheVariants.{None, Some}
-use Rattle.program_meaning.specs.Linear.{Linear}
-use Rattle.duality.specs.Certificate.{ClaimOutcome}
-use Rattle.duality.specs.Problem.{Problem}
-use Rattle.desk.specs.Desk.{Texts}
-use Rattle.texts.specs.Reading.{lines_of}
+use Rattle.linear_program.specs.Linear.{Linear}
+use Rattle.certificates.specs.Certificate.{ClaimOutcome}
+use Rattle.certificates.specs.Problem.{Problem}
+use Rattle.text_base.specs.Desk.{Texts}
+use Rattle.text_base.specs.Reading.{lines_of}
 use Rattle.exact_numbers.specs.declared.dec.Dec.{Dec}
-use Rattle.file_meaning.specs.LinearFile.{linear_of}
+use Rattle.nl_model.specs.LinearFile.{linear_of}
 use Rattle.linear_fold.specs.FoldedFaults.{first_fold_fault}
 use Rattle.nl_model.specs.Draft.{file_of}
 use Rattle.nl_segments.specs.Grammar.{NlValue, said, standing}
@@ -27,11 +27,11 @@ use Rattle.certificates.specs.Setting.{Setting}
 use Rattle.certificates.specs.declared.certificate.Claim.{Claim}
 use Rattle.certificate_text.specs.Reader.{IsCertificateText}
 use Rattle.certificate_text.specs.Written.{AreRowsOf, written_pieces}
-use Rattle.tree_text.specs.Rows.{rows_in}
-use Rattle.file_certificates.specs.FileProblem.{problem_of}
-use Rattle.file_certificates.specs.Setting.{setting_of}
-use Rattle.mps_certificates.specs.Problem.{mps_problem}
-use Rattle.mps_certificates.specs.Setting.{mps_setting}
+use Rattle.certificate_text.specs.TextRows.{rows_in}
+use Rattle.problems.specs.FileProblem.{problem_of}
+use Rattle.problems.specs.NlSetting.{setting_of}
+use Rattle.problems.specs.Problem.{mps_problem}
+use Rattle.problems.specs.MpsSetting.{mps_setting}
 use Rattle.command_parts.specs.CertificateTold.{is_held, outcome_line}
 use Rattle.command_parts.specs.ImportTold.{import_line}
 use Rattle.command_parts.specs.NlTold.{fold_line}

@@ -1,8 +1,8 @@
 // The command check: from an .nl text and a .sol text to the line of a verdict, or to a
 // refusal.
 ghost use Rattle.std.specs.Prelude.{◌≡◌, ◌+◌, ◌≤◌, ◌<ℤ◌, pos, IfOk, MatchOption, None, Some, length};
-ghost use Rattle.program_meaning.specs.Linear.{row_count, variable_count};
-ghost use Rattle.duality.specs.Verdict.{verdict};
+ghost use Rattle.linear_program.specs.Linear.{row_count, variable_count};
+ghost use Rattle.certificates.specs.Verdict.{verdict};
 ghost use Rattle.linear_fold.specs.FoldedFaults.{first_fold_fault};
 ghost use Rattle.linear_program.specs.Programs.{linear_value};
 ghost use Rattle.nl_segments.specs.Reader.{HasLines, value_of};
@@ -13,20 +13,19 @@ ghost use Rattle.bridge_tool.specs.Check.{by_fold, check_outcome, check_promise,
 ghost use Rattle.command_core.specs.SeveralFiles.{Comes};
 ghost use Rattle.command_parts.specs.VerdictTold.{is_yes, verdict_line};
 
+use certificate_check::{certify, fit};
 use command_core::{Answer, Refusal, end};
 use command_parts::{
     fit_refusal, fold_read, is_yes, negative_refusal, open_nl, open_sol, verdict_line,
 };
-use desk::Desk;
-use exact_checks::{Columns, Verdict, certify};
+use exact_checks::{Columns, Verdict};
 use exact_numbers::Dec;
 use linear_program::Linear;
 use nl_model::NlFile;
 use nl_segments::NlRead;
 use sol_files::Sol;
-use solution_fit::fit;
 use std::alloc::{AllocError, Global};
-use texts::{Ledger, Steps, Stop};
+use text_base::{Desk, Ledger, Steps, Stop};
 
 // The number of the objective: that of the objno line, or 0 without one.
 fn objective_number(sol: &Sol) -> i32

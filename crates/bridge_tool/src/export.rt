@@ -4,8 +4,8 @@ ghost use Rattle.std.specs.List.{flat_map};
 ghost use Rattle.exact_numbers.specs.Values.{value_text};
 ghost use Rattle.mps_model.specs.Text.{mps_text_by};
 ghost use Rattle.nl_segments.specs.Reader.{HasLines, value_of};
-ghost use Rattle.exported_program.specs.Program.{mps_of};
-ghost use Rattle.scaling.specs.Exported.{scaled_as};
+ghost use Rattle.scaled_program.specs.ExportedProgram.{mps_of};
+ghost use Rattle.row_scaling.specs.Exported.{scaled_as};
 ghost use Rattle.command_core.specs.InsideAnswer.{IsCounted};
 ghost use Rattle.bridge_tool.specs.Export.{ExportsAs, IsExportMeant, export_promise};
 ghost use Rattle.command_core.specs.SeveralFiles.{ComesInPieces};
@@ -13,12 +13,10 @@ ghost use Rattle.command_parts.specs.Stages.{fold_steps};
 
 use command_core::{Answer, Refusal, end_in_pieces};
 use command_parts::{fold_read, open_nl, scale};
-use desk::Desk;
-use mps_export::text_in_pieces;
 use nl_segments::NlRead;
-use scaling::Scaled;
+use row_scaling::{Scaled, text_in_pieces};
 use std::alloc::{AllocError, Global};
-use texts::{Ledger, Steps, Stop};
+use text_base::{Desk, Ledger, Steps, Stop};
 
 // The written text of the program of a scaled one.
 fn write_program(alloc: Global, scaled: Scaled) -> Result<Vec<Vec<u8>>, AllocError>

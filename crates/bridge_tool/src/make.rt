@@ -1,33 +1,33 @@
 // The command make: the instance of a seed and a size is written, read, folded and exported, and
 // summed up.
 ghost use Rattle.std.specs.Prelude.{◌≡◌, ◌≢◌, ◌+◌, ◌≤◌, IfOk};
-ghost use Rattle.instances.specs.Instance.{instance};
+ghost use Rattle.bridge_tool.specs.Instance.{instance};
 ghost use Rattle.linear_fold.specs.FoldedFaults.{step_bound};
 ghost use Rattle.nl_segments.specs.Reader.{HasLines, value_of};
-ghost use Rattle.exported_program.specs.Program.{mps_of};
-ghost use Rattle.scaling.specs.Exported.{scaled_as};
+ghost use Rattle.scaled_program.specs.ExportedProgram.{mps_of};
+ghost use Rattle.row_scaling.specs.Exported.{scaled_as};
 ghost use Rattle.command_core.specs.InsideAnswer.{IsWorked, status_of};
 ghost use Rattle.bridge_tool.specs.Make.{IsSummedUp, LeavesInput, MakesAs, make_promise, made_text};
 ghost use Rattle.command_core.specs.SeveralFiles.{Comes};
 ghost use Rattle.command_parts.specs.Stages.{fold_steps};
 
+use crate::make_instance;
 use crate::summary::{coefficient_count, exported_count, summary_line};
 use command_core::{Answer, Refusal, end};
 use command_parts::{exported, fold_read, nl_refusal, scale};
-use desk::Desk;
-use instances::make_instance;
 use mps_writer::write_mps;
 use nl_segments::{NlRead, read_nl};
 use nl_writer::write_nl;
-use scaling::Scaled;
+use row_scaling::Scaled;
 use std::alloc::{AllocError, Global};
-use texts::{Ledger, Steps, Stop};
+use text_base::{Desk, Ledger, Steps, Stop};
 
 // The summary of the program of a scaled one, which has so many variables and exported rows.
 fn sum_up(alloc: Global, scaled: Scaled, variables: u32, rows: usize) -> Result<Vec<u8>, AllocError>
     ensures { IfOk result (λ out. IsSummedUp variables rows (mps_of (scaled_as scaled)) out.items) }
 {
     let mps = exported(alloc, scaled)?;
+    // for the prover alone: it brings what an `Mps` always keeps
     let _ = mps.rows();
     let terms = coefficient_count(&mps, rows);
     let text = write_mps(alloc, &mps)?;

@@ -3,8 +3,8 @@
 ghost use Rattle.std.specs.Prelude.{◌≡◌, ◌+◌, ◌≤◌, length, IfOk};
 ghost use Rattle.name_files.specs.Renamed.{HasExportedNames, named};
 ghost use Rattle.nl_segments.specs.Reader.{HasLines, value_of};
-ghost use Rattle.exported_program.specs.Program.{mps_of};
-ghost use Rattle.scaling.specs.Exported.{scaled_as};
+ghost use Rattle.scaled_program.specs.ExportedProgram.{mps_of};
+ghost use Rattle.row_scaling.specs.Exported.{scaled_as};
 ghost use Rattle.command_core.specs.InsideAnswer.{IsCounted};
 ghost use Rattle.bridge_tool.specs.NamedExport.{AreNamedMeant, Named, NamedComesTo, named_promise};
 ghost use Rattle.bridge_tool.specs.InsideExport.{IsNamedTextOf};
@@ -13,15 +13,13 @@ ghost use Rattle.command_parts.specs.Stages.{fold_steps};
 
 use command_core::{Answer, Refusal, end};
 use command_parts::{exported, fold_read, open_columns, open_nl, open_rows, scale};
-use desk::Desk;
-use mps_model::Mps;
+use mps_model::{Mps, NameList};
 use mps_writer::write_mps;
 use name_files::rename;
-use name_lists::NameList;
 use nl_segments::NlRead;
-use scaling::Scaled;
+use row_scaling::Scaled;
 use std::alloc::{AllocError, Global};
-use texts::{Ledger, Steps, Stop};
+use text_base::{Desk, Ledger, Steps, Stop};
 
 // The program with these names; the one without them is let go.
 fn renamed(
@@ -49,6 +47,7 @@ fn write_named(
 {
     let plain = exported(alloc, scaled)?;
     let mps = renamed(alloc, plain, rows, columns)?;
+    // for the prover alone: it brings what an `Mps` always keeps
     let _ = mps.rows();
     let out = write_mps(alloc, &mps)?;
     Ok(out)

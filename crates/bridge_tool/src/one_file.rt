@@ -12,7 +12,6 @@ ghost use Rattle.bridge_tool.specs.OneFile.{IsMpsMeant, row_of, row_promise};
 use crate::verify_mps::{Layout, open_text};
 use command_core::{Answer, Refusal, end};
 use command_parts::{import_refusal, open_mps, open_nl, open_sol};
-use desk::Desk;
 use mps_import::import;
 use mps_model::Mps;
 use mps_writer::write_mps;
@@ -20,7 +19,7 @@ use nl_segments::NlRead;
 use nl_writer::write_nl;
 use sol_files::{Sol, write_sol};
 use std::alloc::Global;
-use texts::Stop;
+use text_base::{Desk, Stop};
 
 /// A command of one file: what it reads, and what it writes of that.
 #[derive(Clone, Copy)]
@@ -49,6 +48,7 @@ fn mps_output(alloc: Global, mps: &Mps) -> Result<(bool, Vec<u8>), Stop<Refusal>
     ensures comes { Comes (λ outcome. outcome ≡ Done true (mps_text mps.now)) result }
     ensures means { IfOk result (λ t. IsMpsMeant mps.now) }
 {
+    // for the prover alone: it brings what an `Mps` always keeps
     let _ = mps.rows();
     let out = write_mps(alloc, mps)?;
     Ok((true, out))

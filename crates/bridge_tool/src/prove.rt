@@ -3,8 +3,8 @@
 ghost use Rattle.std.specs.Prelude.{◌≡◌, ◌+◌, ◌≤◌, is_none, IfOk};
 ghost use Rattle.linear_program.specs.Programs.{linear_value};
 ghost use Rattle.nl_segments.specs.Reader.{HasLines, value_of};
-ghost use Rattle.file_certificates.specs.Files.{IsProofIn};
-ghost use Rattle.branch_check.specs.Leaves.{IsProved, IsVerdictOn, fault_of};
+ghost use Rattle.problems.specs.Files.{IsProofIn};
+ghost use Rattle.branch_proof.specs.Leaves.{IsProved, IsVerdictOn, fault_of};
 ghost use Rattle.certificates.specs.Proofs.{IsProofOf};
 ghost use Rattle.command_core.specs.InsideAnswer.{IsCounted};
 ghost use Rattle.bridge_tool.specs.Prove.{IsLeftOpen, IsProvedOf, claimed_objective, prove_outcome, prove_promise};
@@ -12,16 +12,15 @@ ghost use Rattle.command_parts.specs.ProofTold.{leaf_line};
 ghost use Rattle.command_core.specs.SeveralFiles.{ByVerdict, Comes};
 ghost use Rattle.command_parts.specs.Stages.{fold_steps};
 
-use branch_check::{ProofVerdict, check_proof_by_rows};
+use branch_proof::{ProofVerdict, check_proof_by_rows};
 use certificates::proof::{Claim, Proof};
 use command_core::{Answer, Refusal, end};
 use command_parts::{fold_read, leaf_line, open_nl, open_proof};
-use desk::Desk;
 use exact_checks::Program;
 use linear_program::Linear;
 use nl_segments::NlRead;
 use std::alloc::{AllocError, Global};
-use texts::{Ledger, Steps, Stop};
+use text_base::{Desk, Ledger, Steps, Stop};
 
 // The number of the objective of the claim; 0 where it is of none.
 fn claimed_objective(proof: &Proof) -> u32

@@ -13,12 +13,11 @@ use command_core::{Answer, Refusal, end};
 use command_parts::{
     fold_read, open_answer, open_columns, open_named, open_nl, open_rows, return_refusal, scale,
 };
-use desk::Desk;
 use dual_return::{options_of, solution_by_header};
 use nl_segments::NlRead;
 use sol_files::{Sol, write_sol};
 use std::alloc::Global;
-use texts::{Ledger, Steps, Stop};
+use text_base::{Desk, Ledger, Steps, Stop};
 
 // The .sol value of an answer for a file, which is let go with the fold, or the first fault of
 // the fold, of scaling or of a dual.

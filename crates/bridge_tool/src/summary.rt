@@ -25,6 +25,7 @@ fn count_sides(sides: &[Interval]) -> usize
 pub(crate) fn exported_count(linear: &Linear) -> usize
     ensures { result ≡ exported_count (linear_value linear.now) }
 {
+    // for the prover alone: it brings what a `Linear` always keeps
     let _ = linear.bodies();
     count_sides(linear.sides())
 }

@@ -5,7 +5,7 @@ ghost use Rattle.linear_program.specs.Programs.{linear_value};
 ghost use Rattle.nl_model.specs.Rules.{IsFile};
 ghost use Rattle.nl_segments.specs.Reader.{HasLines, value_of};
 ghost use Rattle.certificates.specs.Certificates.{IsCertificateOf, claim_objective};
-ghost use Rattle.file_certificates.specs.Files.{IsCertificateIn};
+ghost use Rattle.problems.specs.Files.{IsCertificateIn};
 ghost use Rattle.command_core.specs.InsideAnswer.{IsCounted};
 ghost use Rattle.command_core.specs.Outcome.{Done};
 ghost use Rattle.command_core.specs.SeveralFiles.{Comes};
@@ -17,12 +17,11 @@ use certificate_judge::check_certificate;
 use certificates::Certificate;
 use command_core::{Answer, Refusal, end};
 use command_parts::{claim_objective, fold_read, is_held, open_certificate, open_nl, outcome_line};
-use desk::Desk;
 use exact_checks::Program;
 use linear_program::Linear;
 use nl_segments::NlRead;
 use std::alloc::{AllocError, Global};
-use texts::{Ledger, Steps, Stop};
+use text_base::{Desk, Ledger, Steps, Stop};
 
 /// A text that states a problem.
 #[derive(Clone, Copy)]

@@ -15,13 +15,12 @@ use crate::verify::verdict_on;
 use certificates::Certificate;
 use command_core::{Answer, Refusal, answered, end, refusal};
 use command_parts::{claim_objective, import_refusal, open_certificate_over, open_fixed, open_mps};
-use desk::Desk;
 use linear_fold::FoldFault;
 use linear_program::Linear;
 use mps_model::Mps;
 use mps_program::linear_of;
 use std::alloc::Global;
-use texts::Stop;
+use text_base::{Desk, Stop};
 
 /// How an MPS text stands on its lines: in free form, or in fixed columns.
 #[derive(Clone, Copy)]

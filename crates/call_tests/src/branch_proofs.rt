@@ -1,15 +1,14 @@
 // Proofs by branches of a small file: read, and checked over its folded rows by columns.
 ghost use Rattle.std.specs.Prelude.{◌≡◌, ◌<◌};
-ghost use Rattle.file_certificates.specs.Files.{IsProofIn};
+ghost use Rattle.problems.specs.Files.{IsProofIn};
 
 use crate::segments::file_of;
-use branch_proof::{Claim, Proof, ProofNode, ProofVerdict, check_proof};
+use branch_proof::{Claim, Proof, ProofNode, ProofReader, ProofVerdict, check_proof, read_proof};
 use certificate_check::Columns;
 use exact_numbers::Dec;
 use example_texts::proof_texts::{ONE_WHOLE, TWO_LEAVES};
 use linear_fold::fold_all;
 use nl_model::NlFile;
-use proof_text::{ProofReader, read_proof};
 use std::alloc::Global;
 use std::marker::Brand;
 use std::process::Abort;
@@ -45,7 +44,7 @@ fn a_proof_is_read(rt: HostRuntime) {
 }
 
 // The verdict on a proof of a file with its objective 0.
-#[tactic(auto, using(file_certificates::proofs::ProofFiles::proof_of))]
+#[tactic(auto, using(problems::proofs::ProofFiles::proof_of))]
 fn verdict_on<L: Ledger>(
     rt: &impl Abort,
     alloc: Global,

@@ -1,5 +1,5 @@
 // Instances, as they are written.
-use instances::make_instance;
+use bridge_tool::make_instance;
 use nl_writer::write_nl;
 
 const WRITTEN: &[u8] =

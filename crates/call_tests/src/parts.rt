@@ -1,6 +1,6 @@
 // The parts of a file, given one by one.
 ghost use Rattle.std.specs.Prelude.{◌≡◌};
-ghost use Rattle.nl_meaning.specs.Trees.{number};
+ghost use Rattle.nl_model.specs.Trees.{number};
 
 use exact_numbers::Dec;
 use nl_model::{

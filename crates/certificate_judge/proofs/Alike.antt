@@ -6,15 +6,17 @@ use Rattle.std.specs.Option.{option_or}
 use Rattle.std.proofs.Math.Path.{fun_ext}
 use Rattle.std.proofs.lemmas.Bool.{cases_eq, cases_lt}
 use Rattle.std.proofs.lemmas.List.{get_or_past}
-use Rattle.fractions.specs.Fits.{fits, sum_fits}
-use Rattle.fractions.specs.Functions.{is_zero}
-use Rattle.fractions.specs.Rational.{ℚ, zero_ℚ, neg_ℚ, ◌+ℚ◌, ◌-ℚ◌}
-use Rattle.fractions.proofs.Arithmetic.{+ℚ_zero, -ℚ_lem, neg-neg, neg_zero, zero-+ℚ}
-use Rattle.program_meaning.specs.Linear.{Form, Interval, Linear, Row as LinearRow, no_row, row_at, row_count, value_at, variable_count}
-use Rattle.duality.specs.Checked.{fitting, fitting_difference, less_product, plus_product, run}
-use Rattle.duality.specs.Parts.{NumberForm, added_row, at_most, sum_of, with_added_row}
-use Rattle.duality.specs.Points.{Box, Numbers}
-use Rattle.duality.specs.Verdict.{bound_or_fault, bound_total, cost_check, cost_fault, cost_part, cost_part_of, cost_step, dual_bound, dual_fault, first_fault, has_needed, needed_side, reduced_cost, row_part, row_part_of, row_side_missing, side_fault}
+use Rattle.exact_numbers.specs.Fits.{fits, sum_fits}
+use Rattle.exact_numbers.specs.Functions.{is_zero}
+use Rattle.exact_numbers.specs.Rational.{ℚ, zero_ℚ, neg_ℚ, ◌+ℚ◌, ◌-ℚ◌}
+use Rattle.exact_numbers.proofs.RationalLaws.{+ℚ_zero, -ℚ_lem, neg-neg, neg_zero, zero-+ℚ}
+use Rattle.linear_program.specs.Linear.{Form, Interval, Linear, Row as LinearRow, no_row, row_at, row_count, value_at, variable_count}
+use Rattle.certificates.specs.Checked.{fitting, fitting_difference, less_product, plus_product, run}
+use Rattle.certificates.specs.Parts.{NumberForm, added_row, at_most, sum_of, with_added_row}
+use Rattle.certificates.specs.Points.{Box, Numbers}
+use Rattle.certificates.specs.Verdict.{bound_or_fault, bound_total, cost_check, cost_fault, cost_part, cost_part_of}
+use Rattle.certificates.specs.Verdict.{cost_step, dual_bound, dual_fault, first_fault, has_needed, needed_side}
+use Rattle.certificates.specs.Verdict.{reduced_cost, row_part, row_part_of, row_side_missing, side_fault}
 use Rattle.exact_numbers.proofs.Bridge.{frac_fits_lem}
 use Rattle.exact_numbers.proofs.Zeros.{fits_zero, sum_fits_zero, zero_sum_fits}
 use Rattle.linear_program.specs.Intervals.{interval_of}
@@ -100,7 +102,9 @@ module _ (t : ℚ) (fit : fits t ≡ true) (s d : ℚ) where
       ∙ ap (λ o. option_and_then (λ v. option_and_then (λ w. plus_product s v w) o) (fitting d)) (from_zero ∙ sym from_most)
       ∙ sym (ap (option_and_then (with_side zero_ℚ)) (fitting_known t fit))
 
-  by_sign : (max : Bool) (z : ℤ) → option_and_then (with_side (neg_ℚ t)) (option_and_then fitting (needed_side max z (at_most zero_ℚ))) ≡ option_and_then (with_side zero_ℚ) (option_and_then fitting (needed_side max z (at_most t)))
+  by_sign : (max : Bool) (z : ℤ) → option_and_then (with_side (neg_ℚ t))
+      (option_and_then fitting (needed_side max z (at_most zero_ℚ)))
+      ≡ option_and_then (with_side zero_ℚ) (option_and_then fitting (needed_side max z (at_most t)))
   by_sign false (negsuc n) = upper
   by_sign true (pos n) = upper
   by_sign max z = refl

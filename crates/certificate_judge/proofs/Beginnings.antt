@@ -7,15 +7,15 @@ use Rattle.std.proofs.Math.Path.{fun_ext}
 use Rattle.std.proofs.lemmas.Bool.{cases_lt}
 use Rattle.std.proofs.lemmas.List.{get_or_past}
 use Rattle.std.proofs.lemmas.Option.{slice_get_past}
-use Rattle.fractions.specs.Rational.{ℚ}
-use Rattle.program_meaning.specs.Linear.{Interval, Linear, Variable, no_variable, variable_count}
-use Rattle.duality.specs.Points.{bounds_of}
+use Rattle.exact_numbers.specs.Rational.{ℚ}
+use Rattle.linear_program.specs.Linear.{Interval, Linear, Variable, no_variable, variable_count}
+use Rattle.certificates.specs.Points.{bounds_of}
 use Rattle.exact_numbers.specs.declared.dec.Dec.{Dec}
 use Rattle.linear_program.specs.declared.interval.Interval.{Interval as Sides}
 use Rattle.linear_program.specs.Intervals.{interval_of}
 use Rattle.exact_checks.specs.Lists.{bounds_in, side_listed}
 use Rattle.exact_checks.specs.Terms.{side_value}
-use Rattle.duality.specs.Parts.{whole_part}
+use Rattle.certificates.specs.Parts.{whole_part}
 use Rattle.certificate_judge.specs.InsidePaths.{IsAt, IsPath, IsUnder, sides_of}
 use Rattle.certificate_judge.specs.declared.path.Path.{Path}
 
@@ -89,9 +89,13 @@ module _ (f : Linear) where
       ∙ ap (λ (x : Variable). x.bound) (sym (get_or_past f.variables j no_variable l))
 
   sides_are_bounds : (lo hi : List (Option Dec)) → AreLowerSoFar lo (variable_count f) → AreUpperSoFar hi (variable_count f) → bounds_in lo hi ≡ bounds_of f
-  sides_are_bounds lo hi a b = fun_ext (λ j. ⊎_elim (λ (l : j < variable_count f). ap₂ (λ u v. record { lower = u; upper = v }) (a.values j l) (b.values j l)) (past lo hi a b j) (cases_lt j (variable_count f)))
+  sides_are_bounds lo hi a b = fun_ext (λ j. ⊎_elim (λ (l : j < variable_count f). ap₂
+      (λ u v. record { lower = u; upper = v }) (a.values j l) (b.values j l)) (past lo hi a b j)
+      (cases_lt j (variable_count f)))
 
-  module _ (p : Path) (n : ℕ) (all : n ≡ variable_count f) (lower : AreLowerSoFar p.lo.items n) (upper : AreUpperSoFar p.hi.items n) (no_rows : p.added.items ≡ []) (no_lemmas : p.lemmas.items ≡ []) (no_steps : p.steps.items ≡ []) where
+  module _ (p : Path) (n : ℕ) (all : n ≡ variable_count f) (lower : AreLowerSoFar p.lo.items n)
+      (upper : AreUpperSoFar p.hi.items n) (no_rows : p.added.items ≡ []) (no_lemmas : p.lemmas.items ≡ [])
+      (no_steps : p.steps.items ≡ []) where
     pub path_begins : IsPath (variable_count f) p
     path_begins =
         record {

@@ -7,9 +7,9 @@ use Rattle.std.proofs.lemmas.Option.{slice_get-get_or, slice_get_past}
 use Rattle.std.proofs.Common.{get_or-set_same, get_or-set_other, length-set, ⊎_elim, ◌≤◌, arith}
 use Rattle.std.proofs.Math.Path.{fun_ext}
 use Rattle.std.proofs.lemmas.List.{set-get_or, set-set}
-use Rattle.fractions.specs.Rational.{ℚ}
+use Rattle.exact_numbers.specs.Rational.{ℚ}
 use Rattle.exact_numbers.specs.declared.dec.Dec.{Dec}
-use Rattle.duality.specs.Parts.{least, greatest, capped, raised}
+use Rattle.certificates.specs.Parts.{least, greatest, capped, raised}
 use Rattle.exact_checks.specs.Lists.{side_listed, bounds_in}
 use Rattle.exact_checks.specs.Terms.{side_value}
 use Rattle.exact_checks.proofs.Rows.{side_at_index}

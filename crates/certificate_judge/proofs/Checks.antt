@@ -1,12 +1,12 @@
 -- The parts of a certificate, and its outcome.
 use Rattle.std.proofs.Common.{◌≡◌, ℕ, ◌∙◌, sym, ap, ap₂, List, ◌++◌, drop, take, Option, Some, None, refl}
 use Rattle.std.proofs.Math.Seq.{take-append_seam}
-use Rattle.fractions.specs.Rational.{zero_ℚ}
-use Rattle.program_meaning.specs.Linear.{Linear, row_count, value_at, variable_count}
-use Rattle.duality.specs.Branch.{proof_fault}
-use Rattle.duality.specs.Certificate.{ClaimOutcome as OutcomeWords, alone, judged, outcome, unless_leaf, with_leaves, with_ray, with_proof}
-use Rattle.duality.specs.Parts.{IsWholeVariable}
-use Rattle.duality.specs.Ray.{ray_fault}
+use Rattle.exact_numbers.specs.Rational.{zero_ℚ}
+use Rattle.linear_program.specs.Linear.{Linear, row_count, value_at, variable_count}
+use Rattle.certificates.specs.Branch.{proof_fault}
+use Rattle.certificates.specs.Certificate.{ClaimOutcome as OutcomeWords, alone, judged, outcome, unless_leaf, with_leaves, with_ray, with_proof}
+use Rattle.certificates.specs.Parts.{IsWholeVariable}
+use Rattle.certificates.specs.Ray.{ray_fault}
 use Rattle.linear_program.specs.declared.number.Number.{Number}
 use Rattle.certificates.specs.declared.certificate.Claim.TheVariants.{Optimal, Within, Bound, Feasible, Infeasible, Unbounded}
 use Rattle.certificates.specs.Certificates.{CertificateTree, CertificateValue, Given, HasTree, HasWeights, IsCertificateOf, certificate_over, pairs_in, nodes_in, tree_over}
@@ -47,19 +47,29 @@ module _ (f : Linear) (c : CertificateValue) (h : IsCertificateOf f c) where
 
 -- ---- by claim
 module _ (f : Linear) (n m : ℕ) where
-  pub optimal_is : (k : ℕ) (g : Given) (o : OutcomeWords) (has : HasTree g.tree) → ((tree : CertificateTree) → g.tree ≡ Some tree → o ≡ with_proof f (tree_over m tree) (judged f (spread n g.point))) → o ≡ outcome f (certificate_over n m (Optimal k) g)
+  pub optimal_is : (k : ℕ) (g : Given) (o : OutcomeWords) (has : HasTree g.tree)
+      → ((tree : CertificateTree) → g.tree ≡ Some tree → o ≡ with_proof f (tree_over m tree)
+      (judged f (spread n g.point))) → o ≡ outcome f (certificate_over n m (Optimal k) g)
   unfolding outcome
   optimal_is k g o has h = given_tree (λ t. o ≡ outcome f (certificate_over n m (Optimal k) (record g { tree = t }))) g.tree has h
 
-  pub near_is : (k : ℕ) (v : Number) (g : Given) (o : OutcomeWords) (has : HasTree g.tree) → ((tree : CertificateTree) → g.tree ≡ Some tree → o ≡ with_leaves (proof_fault f (number_value v) (tree_over m tree)) (judged f (spread n g.point))) → o ≡ outcome f (certificate_over n m (Within k v) g)
+  pub near_is : (k : ℕ) (v : Number) (g : Given) (o : OutcomeWords) (has : HasTree g.tree)
+      → ((tree : CertificateTree) → g.tree ≡ Some tree → o ≡ with_leaves
+      (proof_fault f (number_value v) (tree_over m tree)) (judged f (spread n g.point)))
+      → o ≡ outcome f (certificate_over n m (Within k v) g)
   unfolding outcome
   near_is k v g o has h = given_tree (λ t. o ≡ outcome f (certificate_over n m (Within k v) (record g { tree = t }))) g.tree has h
 
-  pub bound_is : (k : ℕ) (v : Number) (g : Given) (o : OutcomeWords) (has : HasTree g.tree) → ((tree : CertificateTree) → g.tree ≡ Some tree → o ≡ unless_leaf (proof_fault f (number_value v) (tree_over m tree)) (Some (number_value v))) → o ≡ outcome f (certificate_over n m (Bound k v) g)
+  pub bound_is : (k : ℕ) (v : Number) (g : Given) (o : OutcomeWords) (has : HasTree g.tree)
+      → ((tree : CertificateTree) → g.tree ≡ Some tree → o ≡ unless_leaf
+      (proof_fault f (number_value v) (tree_over m tree)) (Some (number_value v)))
+      → o ≡ outcome f (certificate_over n m (Bound k v) g)
   unfolding outcome
   bound_is k v g o has h = given_tree (λ t. o ≡ outcome f (certificate_over n m (Bound k v) (record g { tree = t }))) g.tree has h
 
-  pub infeasible_is : (g : Given) (o : OutcomeWords) (has : HasTree g.tree) → ((tree : CertificateTree) → g.tree ≡ Some tree → o ≡ unless_leaf (proof_fault f zero_ℚ (tree_over m tree)) None) → o ≡ outcome f (certificate_over n m Infeasible g)
+  pub infeasible_is : (g : Given) (o : OutcomeWords) (has : HasTree g.tree)
+      → ((tree : CertificateTree) → g.tree ≡ Some tree → o ≡ unless_leaf (proof_fault f zero_ℚ (tree_over m tree)) None)
+      → o ≡ outcome f (certificate_over n m Infeasible g)
   unfolding outcome
   infeasible_is g o has h = given_tree (λ t. o ≡ outcome f (certificate_over n m Infeasible (record g { tree = t }))) g.tree has h
 

@@ -1,17 +1,19 @@
 -- A side that does not fit: where it is whole it is large, and then its sign decides.
-use Rattle.std.proofs.Common.{◌≡◌, ℕ, zero, suc, ◌*◌, ◌<◌, ◌≤◌, ◌^◌, ◌⊎◌, inl, inr, ◌∙◌, sym, ap, subst, refl, arith, ⊎_elim, one-mul, mul-one, Bool, true, false, ℤ, pos, negsuc, ◌*ℤ◌, ◌≤ℤ◌, neg_ℤ, unsigned_abs}
+use Rattle.std.proofs.Common.{◌≡◌, ℕ, zero, suc, ◌*◌, ◌<◌, ◌≤◌, ◌^◌, ◌⊎◌, inl, inr, ◌∙◌, sym, ap, subst, refl, arith}
+use Rattle.std.proofs.Common.{⊎_elim, one-mul, mul-one, Bool, true, false, ℤ, pos, negsuc, ◌*ℤ◌, ◌≤ℤ◌, neg_ℤ}
+use Rattle.std.proofs.Common.{unsigned_abs}
 use Rattle.std.specs.Prelude.{if◌then◌else◌, Option, Some, None, IsTrue, ◌↔◌, ◌||◌, ◌&&◌, not}
 use Rattle.std.proofs.lemmas.Int.{ints, unsigned_abs-mul}
 use Rattle.std.proofs.lemmas.Bool.{cases_lt, false_from_ne_true, or_right, or_left}
-use Rattle.fractions.specs.Fits.{fits, is_small}
-use Rattle.fractions.specs.Rational.{ℚ, IsWhole, decimal_value, whole, zero_ℚ, neg_ℚ, ◌<ℚ◌}
-use Rattle.fractions.proofs.Arithmetic.{decimal_value_lem, not_both, whole-neg, whole-≤ℚ, whole_of, ≤ℚ_of_<ℚ}
-use Rattle.fractions.proofs.Values.{HasValue, le_value, neg_value, scaled_value, whole_value}
-use Rattle.duality.specs.Certificate.{can_compare, is_large, large}
-use Rattle.duality.specs.Checked.{is_at_most}
-use Rattle.duality.specs.Verdict.{is_not_above, is_not_below}
-use Rattle.duality.proofs.Checks.{at_most_of, at_most_yes}
-use Rattle.duality.proofs.Large.{large_above, large_below}
+use Rattle.exact_numbers.specs.Fits.{fits, is_small}
+use Rattle.exact_numbers.specs.Rational.{ℚ, IsWhole, decimal_value, whole, zero_ℚ, neg_ℚ, ◌<ℚ◌}
+use Rattle.exact_numbers.proofs.RationalLaws.{decimal_value_lem, not_both, whole-neg, whole-≤ℚ, whole_of, ≤ℚ_of_<ℚ}
+use Rattle.exact_numbers.proofs.Values.{HasValue, le_value, neg_value, scaled_value, whole_value}
+use Rattle.certificates.specs.Certificate.{can_compare, is_large, large}
+use Rattle.certificates.specs.Checked.{is_at_most}
+use Rattle.certificates.specs.Verdict.{is_not_above, is_not_below}
+use Rattle.certificates.proofs.Checks.{at_most_of, at_most_yes}
+use Rattle.certificates.proofs.Large.{large_above, large_below}
 use Rattle.exact_numbers.specs.declared.dec.Dec.{Dec}
 use Rattle.exact_numbers.specs.Values.{dec_value}
 use Rattle.exact_numbers.proofs.Bridge.{decimal_is, small_of, whole_is}
@@ -54,7 +56,9 @@ module _ (x s : ℚ) (negative : Bool) (fit : fits x ≡ true) (sign : IsTrue ne
       (or_cases (is_at_most large s) (is_at_most s (neg_ℚ large)) h)
 
 -- ---- sides that do not fit and are large
-module _ (d : Dec) (x : ℚ) (negative large_here : Bool) (side : Option Dec) (is : side ≡ Some d) (fit : fits x ≡ true) (sign : IsTrue negative ↔ (dec_value d <ℚ zero_ℚ)) (here : large_here ≡ true) (test : large_here ≡ is_large (dec_value d)) where
+module _ (d : Dec) (x : ℚ) (negative large_here : Bool) (side : Option Dec) (is : side ≡ Some d) (fit : fits x ≡ true)
+    (sign : IsTrue negative ↔ (dec_value d <ℚ zero_ℚ)) (here : large_here ≡ true)
+    (test : large_here ≡ is_large (dec_value d)) where
   can : can_compare (side_value side) ≡ true
   can = ap (λ o. can_compare (side_value o)) is ∙ or_right (fits (dec_value d)) (is_large (dec_value d)) (sym test ∙ here)
 
@@ -120,6 +124,8 @@ large_is d false wide w = by d.e refl
     by : (e : ℤ) → d.e ≡ e → false ≡ is_large (dec_value d)
     by (pos k) is = absurd (let e : false ≡ true = w.1 ((whole_is _ _ (decimal_is d.m d.e)).1 (whole_above d.m d.e (subst (λ x. pos 0 ≤ℤ x) (sym is) (omega (arith, ints))))) in cc)
     by (negsuc k) is =
-        let value : HasValue (dec_value d) (d.m *ℤ pos (10 ^ 0)) (10 ^ suc k) = subst (λ x. HasValue (decimal_value d.m x) (d.m *ℤ pos (10 ^ 0)) (10 ^ suc k)) (sym is) (decimal_value_lem d.m (negsuc k)) in
+        let value : HasValue (dec_value d) (d.m *ℤ pos (10 ^ 0)) (10 ^ suc k) =
+        subst (λ x. HasValue (decimal_value d.m x) (d.m *ℤ pos (10 ^ 0)) (10 ^ suc k)) (sym is)
+        (decimal_value_lem d.m (negsuc k)) in
         let size : unsigned_abs (d.m *ℤ pos (10 ^ 0)) ≡ unsigned_abs d.m = unsigned_abs-mul d.m (pos 1) ∙ mul-one (unsigned_abs d.m) in
         sym (part_not_large (dec_value d) (d.m *ℤ pos (10 ^ 0)) (10 ^ suc k) value (subst (λ n. n < 2 ^ 127) (sym size) d.spelled.mantissa))

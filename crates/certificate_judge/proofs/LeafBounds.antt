@@ -1,9 +1,9 @@
 -- The bound and the test of a leaf, where a path stands.
 use Rattle.std.proofs.Common.{◌≡◌, ◌∙◌, sym, ap, ap₂, subst, refl, List, length, Bool, true, Option, Some, None}
-use Rattle.fractions.specs.Rational.{ℚ, zero_ℚ}
-use Rattle.program_meaning.specs.Linear.{Form, Linear, row_count}
-use Rattle.duality.specs.Parts.{Part, maximising, whole_part}
-use Rattle.duality.specs.Verdict.{BoundVerdict, dual_bound}
+use Rattle.exact_numbers.specs.Rational.{ℚ, zero_ℚ}
+use Rattle.linear_program.specs.Linear.{Form, Linear, row_count}
+use Rattle.certificates.specs.Parts.{Part, maximising, whole_part}
+use Rattle.certificates.specs.Verdict.{BoundVerdict, dual_bound}
 use Rattle.exact_numbers.specs.declared.dec.Dec.{Dec}
 use Rattle.exact_numbers.specs.Values.{frac_value}
 use Rattle.linear_program.specs.Coefs.{Term, coef_in}
@@ -66,7 +66,9 @@ module _ (c : Program) (v : ℚ) (turns : List Turn) (path : Path) (at : IsAt (w
     rows_held = subst (λ rs. HasRows c rs held.rows.same) (sym rows_are) held.rows.held
 
     -- with another goal of the rows that are held
-    moved : (g f : Linear) → AreAlike g f → g.objective ≡ f.objective → g.maximise ≡ f.maximise → dual_bound g (bounds_in lo hi) (spread (row_count held.rows.same) ps) ≡ dual_bound f here.box (spread (row_count here.program) ps)
+    moved : (g f : Linear) → AreAlike g f → g.objective ≡ f.objective → g.maximise ≡ f.maximise
+        → dual_bound g (bounds_in lo hi) (spread (row_count held.rows.same) ps)
+        ≡ dual_bound f here.box (spread (row_count here.program) ps)
     moved g f alike objective maximise =
         ap₂ (dual_bound g) (ap₂ bounds_in lo_is hi_is ∙ held.box) (ap (λ n. spread n ps) held.rows.alike.rows)
         ∙ same_bound g f alike objective maximise here.box (spread (row_count here.program) ps)
@@ -95,6 +97,8 @@ module _ (c : Program) (v : ℚ) (turns : List Turn) (path : Path) (at : IsAt (w
         let o = form_of c.objective in
         let of = record held.rows.same { objective = o; maximise = c.maximise } in
         q of (over_goal c rows held.rows.same o c.maximise rows_held refl refl)
-        ∙ moved (asked Zero of) (asked Zero here.program) (goals_alike held.rows.same here.program (asked Zero of).objective (asked Zero here.program).objective (asked Zero of).maximise (asked Zero here.program).maximise held.rows.alike) refl refl
+        ∙ moved (asked Zero of) (asked Zero here.program) (goals_alike held.rows.same here.program
+        (asked Zero of).objective (asked Zero here.program).objective (asked Zero of).maximise
+        (asked Zero here.program).maximise held.rows.alike) refl refl
 
 pub ruleset senses = (own_sense, own_value, maximise_same)

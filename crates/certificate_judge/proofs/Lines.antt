@@ -1,5 +1,6 @@
 -- Each line has one cause: the cause is read back from the words of the line.
-use Rattle.std.proofs.Common.{◌≡◌, ◌∙◌, ℕ, suc, ◌-◌, ◌<◌, ◌^◌, ◌≤◌, Bool, true, false, nat_eq, List, [], ◌∷◌, ◌++◌, Option, Some, None, ℤ, pos, negsuc, unsigned_abs, refl, sym, ap, ap₂, append_assoc, arith}
+use Rattle.std.proofs.Common.{◌≡◌, ◌∙◌, ℕ, suc, ◌-◌, ◌<◌, ◌^◌, ◌≤◌, Bool, true, false, nat_eq, List, [], ◌∷◌, ◌++◌}
+use Rattle.std.proofs.Common.{Option, Some, None, ℤ, pos, negsuc, unsigned_abs, refl, sym, ap, ap₂, append_assoc, arith}
 use Rattle.std.specs.Prelude.{codes, if◌then◌else◌}
 use Rattle.std.proofs.lemmas.Bool.Decides.{nat_tests}
 use Rattle.std.proofs.lemmas.Fmt.{decimal_is_IsNumeral_wide}
@@ -7,24 +8,24 @@ use Rattle.std.specs.Char.{digit_value}
 use Rattle.std.specs.Fmt.{decimal, signed_decimal}
 use Rattle.std.specs.Str.{bytes_eq}
 use Rattle.std.specs.Str.Parse.{AllDigits, digits_value}
-use Rattle.fractions.specs.Fits.{fits}
-use Rattle.fractions.specs.Rational.{ℚ, zero_ℚ}
-use Rattle.fractions.proofs.Values.{same_parts}
-use Rattle.program_meaning.specs.Linear.{Linear}
-use Rattle.duality.specs.Branch.{LeafFault, row_side, bound_side, wide, open_gap}
-use Rattle.duality.specs.Certificate.{Cause, Certificate, at_point, not_whole, objective_wide, at_ray, at_leaf}
-use Rattle.duality.specs.Problem.{Problem}
-use Rattle.duality.specs.ProblemSays.{Denies}
-use Rattle.duality.specs.Ray.{RayFault, ray_row_wide, ray_row_broken, ray_bound_broken, ray_objective_wide, ray_no_better}
-use Rattle.duality.specs.Verdict.{Place, at_row, at_bound, at_cost, at_objective, at_total, Fault, row_broken, bound_broken, row_side_missing, bound_side_missing, too_wide}
-use Rattle.duality.proofs.Problems.{not_at_objective}
+use Rattle.exact_numbers.specs.Fits.{fits}
+use Rattle.exact_numbers.specs.Rational.{ℚ, zero_ℚ}
+use Rattle.exact_numbers.proofs.Values.{same_parts}
+use Rattle.linear_program.specs.Linear.{Linear}
+use Rattle.certificates.specs.Branch.{LeafFault, row_side, bound_side, wide, open_gap}
+use Rattle.certificates.specs.Certificate.{Cause, Certificate, at_point, not_whole, objective_wide, at_ray, at_leaf}
+use Rattle.certificates.specs.Problem.{Problem}
+use Rattle.certificates.specs.ProblemSays.{Denies}
+use Rattle.certificates.specs.Ray.{RayFault, ray_row_wide, ray_row_broken, ray_bound_broken, ray_objective_wide, ray_no_better}
+use Rattle.certificates.specs.Verdict.{Place, at_row, at_bound, at_cost, at_objective, at_total, Fault, row_broken, bound_broken, row_side_missing, bound_side_missing, too_wide}
+use Rattle.certificates.proofs.Problems.{not_at_objective}
 use Rattle.exact_numbers.specs.SpelledLemmas.{fitted}
 use Rattle.exact_numbers.specs.Values.{frac_value}
 use Rattle.exact_numbers.specs.Written.{frac_text}
 use Rattle.exact_numbers.specs.declared.frac.Frac.{Frac}
 use Rattle.exact_numbers.proofs.Texts.{digit_byte}
-use Rattle.fraction_words.specs.Words.{frac_of}
-use Rattle.fraction_words.proofs.Written.{fraction_read}
+use Rattle.exact_numbers.specs.Words.{frac_of}
+use Rattle.exact_numbers.proofs.Written.{fraction_read}
 use Rattle.exact_checks.specs.Reasons.{cause_text}
 use Rattle.certificate_judge.specs.Reasons.{failed_text, fault_index, place_index, ray_index, leaf_fault_text, open_text, IsShort, IsShortLeaf}
 

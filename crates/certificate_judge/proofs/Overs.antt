@@ -1,9 +1,11 @@
 -- What a path holds is the part at the end of its turns.
 use Rattle.std.proofs.Common.{◌≡◌, ℕ, ◌+◌, ◌<◌, ◌∙◌, sym, ap, subst, refl, List, [], ◌∷◌, ◌++◌, length, length-append, append-nil, append_assoc, get_or, reverse, Option, Some, None, pos, ◌+ℤ◌, true}
 use Rattle.std.specs.Prelude.{slice_get}
-use Rattle.program_meaning.specs.Linear.{Form, Interval, Linear, Row as LinearRow, no_row, row_at, variable_count}
-use Rattle.fractions.specs.Rational.{ℚ, whole, zero_ℚ}
-use Rattle.duality.specs.Parts.{NumberForm, Part, WholeForm, added_row, bound, plane, lemma, at_least, at_most, capped, form_of as plane_form, maximising, raised, sum_of, with_added_row, whole_part}
+use Rattle.linear_program.specs.Linear.{Form, Interval, Linear, Row as LinearRow, no_row, row_at, variable_count}
+use Rattle.exact_numbers.specs.Rational.{ℚ, whole, zero_ℚ}
+use Rattle.certificates.specs.Parts.{NumberForm, Part, WholeForm, added_row, bound, plane, lemma, at_least, at_most}
+use Rattle.certificates.specs.Parts.{capped, form_of as plane_form, maximising, raised, sum_of, with_added_row}
+use Rattle.certificates.specs.Parts.{whole_part}
 use Rattle.exact_numbers.specs.Values.{frac_value}
 use Rattle.linear_program.specs.Intervals.{interval_of}
 use Rattle.linear_program.specs.Coefs.{coef_in}
@@ -25,7 +27,9 @@ use Rattle.certificate_judge.proofs.Lasts.{Placed, get_inside, get_last, inside,
 use Rattle.certificate_judge.proofs.PathLemmas.{within_last, within_less}
 
 -- ---- one row more
-rows_more : (c : Program) (rows : List Row) (f : Linear) (form : Form) (side : Interval) (r : Row) → HasRows c rows f → form_of r.body ≡ form → interval_of r.side ≡ side → AreTerms 0 (length c.lower.items) r.body.terms → HasRows c (rows ++ r ∷ []) (with_added_row f form side)
+rows_more : (c : Program) (rows : List Row) (f : Linear) (form : Form) (side : Interval) (r : Row) → HasRows c rows f
+    → form_of r.body ≡ form → interval_of r.side ≡ side → AreTerms 0 (length c.lower.items) r.body.terms
+    → HasRows c (rows ++ r ∷ []) (with_added_row f form side)
 rows_more c rows f form side r held body sides terms =
     record {
       rows = length-append f.rows _ ∙ ap (λ n. n + 1) held.rows ∙ sym (length-append (c.rows.items ++ rows) (r ∷ [])) ∙ ap length (append_assoc c.rows.items rows (r ∷ []));
@@ -95,12 +99,15 @@ pub record IsPartHeld (c : Program) (v : ℚ) (s : Sides) (p : Part) : Type 0 wh
   pub goal : HasGoal c v (last_of s.lemmas) p
 
 -- a goal of a part with other rows or bounds
-same_goal : (c : Program) (v : ℚ) (o : Option Lemma) (p q : Part) → q.program.objective ≡ p.program.objective → q.program.maximise ≡ p.program.maximise → q.value ≡ p.value → HasGoal c v o p → HasGoal c v o q
+same_goal : (c : Program) (v : ℚ) (o : Option Lemma) (p q : Part) → q.program.objective ≡ p.program.objective
+    → q.program.maximise ≡ p.program.maximise → q.value ≡ p.value → HasGoal c v o p → HasGoal c v o q
 same_goal c v None p q a b d h = (a ∙ h.0, b ∙ h.1, d ∙ h.2)
 same_goal c v (Some l) p q a b d h = (a ∙ h.0, b ∙ h.1, d ∙ h.2)
 
 module _ (c : Program) (v : ℚ) where
-  one_plane_row : (rows : List Row) (f : Linear) (form : WholeForm) (side : Interval) (r : Row) → AreHeld c rows f → IsPlaneRow form side r → AreTerms 0 (length c.lower.items) r.body.terms → AreHeld c (rows ++ r ∷ []) (with_added_row f (plane_form form) side)
+  one_plane_row : (rows : List Row) (f : Linear) (form : WholeForm) (side : Interval) (r : Row) → AreHeld c rows f
+      → IsPlaneRow form side r → AreTerms 0 (length c.lower.items) r.body.terms
+      → AreHeld c (rows ++ r ∷ []) (with_added_row f (plane_form form) side)
   one_plane_row rows f form side r h is terms =
       record {
         same = with_added_row h.same (plane_form form) side;
@@ -112,7 +119,9 @@ module _ (c : Program) (v : ℚ) where
   other_goal : {rows : List Row} (p : Part) (form : NumberForm) → AreHeld c rows p.program → AreHeld c rows (maximising p.program (sum_of form))
   other_goal p form h = record { same = h.same; held = h.held; alike = record { rows = h.alike.rows; variables = h.alike.variables; row = h.alike.row } }
 
-  one_lemma_row : (rows : List Row) (f : Linear) (form : NumberForm) (t : ℚ) (r : Row) → AreHeld c rows f → IsLemmaRow form t r → AreTerms 0 (length c.lower.items) r.body.terms → AreHeld c (rows ++ r ∷ []) (with_added_row f (sum_of form) (at_most t))
+  one_lemma_row : (rows : List Row) (f : Linear) (form : NumberForm) (t : ℚ) (r : Row) → AreHeld c rows f
+      → IsLemmaRow form t r → AreTerms 0 (length c.lower.items) r.body.terms
+      → AreHeld c (rows ++ r ∷ []) (with_added_row f (sum_of form) (at_most t))
   one_lemma_row rows f form t r h is terms =
       record {
         same = with_added_row h.same (form_of r.body) (interval_of r.side);
@@ -121,7 +130,8 @@ module _ (c : Program) (v : ℚ) where
       }
 
   -- what a turn does to what is held
-  turn_held : (turn : Turn) (step : Step) (up down : Sides) (p : Part) → IsTurn turn step up down → AreWithin (length c.lower.items) down.added → IsPartHeld c v up p → IsPartHeld c v down (part_under p (turn ∷ []))
+  turn_held : (turn : Turn) (step : Step) (up down : Sides) (p : Part) → IsTurn turn step up down
+      → AreWithin (length c.lower.items) down.added → IsPartHeld c v up p → IsPartHeld c v down (part_under p (turn ∷ []))
   turn_held (to_first (bound j t)) (AtMost i s before) up down p h w k =
       record {
         rows = subst (λ (x : Sides). AreHeld c x.added p.program) h.3 k.rows;
@@ -137,14 +147,17 @@ module _ (c : Program) (v : ℚ) where
   turn_held (to_first (plane form t)) (Under s) up down p h w k =
       let terms = within_last (length c.lower.items) up.added h.1.0 (subst (λ (x : Sides). AreWithin (length c.lower.items) x.added) h.1.2 w) in
       record {
-        rows = subst (λ (x : Sides). AreHeld c x.added (with_added_row p.program (plane_form form) (at_most (whole t)))) (sym h.1.2) (one_plane_row up.added p.program form (at_most (whole t)) h.1.0 k.rows h.1.1 terms);
+        rows = subst (λ (x : Sides). AreHeld c x.added (with_added_row p.program (plane_form form) (at_most (whole t))))
+            (sym h.1.2) (one_plane_row up.added p.program form (at_most (whole t)) h.1.0 k.rows h.1.1 terms);
         box = ap (λ (x : Sides). bounds_in x.lo x.hi) h.1.2 ∙ k.box;
         goal = same_goal c v (last_of down.lemmas) p (part_under p (to_first (plane form t) ∷ [])) refl refl refl (subst (λ (x : Sides). HasGoal c v (last_of x.lemmas) p) (sym h.1.2) k.goal);
       }
   turn_held (to_second (plane form t)) Over up down p h w k =
       let terms = within_last (length c.lower.items) up.added h.0 (subst (λ (x : Sides). AreWithin (length c.lower.items) x.added) h.2 w) in
       record {
-        rows = subst (λ (x : Sides). AreHeld c x.added (with_added_row p.program (plane_form form) (at_least (whole (t +ℤ pos 1))))) (sym h.2) (one_plane_row up.added p.program form (at_least (whole (t +ℤ pos 1))) h.0 k.rows h.1 terms);
+        rows = subst (λ (x : Sides). AreHeld c x.added (with_added_row p.program (plane_form form)
+            (at_least (whole (t +ℤ pos 1))))) (sym h.2) (one_plane_row up.added p.program form
+            (at_least (whole (t +ℤ pos 1))) h.0 k.rows h.1 terms);
         box = ap (λ (x : Sides). bounds_in x.lo x.hi) h.2 ∙ k.box;
         goal = same_goal c v (last_of down.lemmas) p (part_under p (to_second (plane form t) ∷ [])) refl refl refl (subst (λ (x : Sides). HasGoal c v (last_of x.lemmas) p) (sym h.2) k.goal);
       }
@@ -174,7 +187,9 @@ module _ (c : Program) (v : ℚ) where
   rows_above (to_second (lemma form t)) Over up down h w = within_less (length c.lower.items) up.added h.0 (subst (λ (x : Sides). AreWithin (length c.lower.items) x.added) h.2 w)
   rows_above turn step up down h w = absurd h
 
-  under_held : (turns : List Turn) (steps : List Step) (s : Sides) → IsUnder (whole_part (program_value c) v) turns steps s → AreWithin (length c.lower.items) s.added → IsPartHeld c v s (part_under (whole_part (program_value c) v) turns)
+  under_held : (turns : List Turn) (steps : List Step) (s : Sides)
+      → IsUnder (whole_part (program_value c) v) turns steps s → AreWithin (length c.lower.items) s.added
+      → IsPartHeld c v s (part_under (whole_part (program_value c) v) turns)
   unfolding IsUnder
   under_held [] [] s h w =
       record {
@@ -182,8 +197,11 @@ module _ (c : Program) (v : ℚ) where
         box = h.0;
         goal = subst (λ o. HasGoal c v o (whole_part (program_value c) v)) (ap last_of (sym h.2)) (objective_same c, maximise_same c, refl);
       }
-  under_held (turn ∷ turns) (step ∷ steps) s h w = turn_held turn step h.0 s (part_under (whole_part (program_value c) v) turns) h.1 w (under_held turns steps h.0 h.2 (rows_above turn step h.0 s h.1 w))
+  under_held (turn ∷ turns) (step ∷ steps) s h w = turn_held turn step h.0 s
+      (part_under (whole_part (program_value c) v) turns) h.1 w
+      (under_held turns steps h.0 h.2 (rows_above turn step h.0 s h.1 w))
   under_held turns steps s h w = absurd h
 
-  pub path_held : (turns : List Turn) (p : Path) → IsAt (whole_part (program_value c) v) turns p → IsPath (length c.lower.items) p → IsPartHeld c v (sides_of p) (part_under (whole_part (program_value c) v) turns)
+  pub path_held : (turns : List Turn) (p : Path) → IsAt (whole_part (program_value c) v) turns p
+      → IsPath (length c.lower.items) p → IsPartHeld c v (sides_of p) (part_under (whole_part (program_value c) v) turns)
   path_held turns p h k = under_held turns (reverse p.steps.items) (sides_of p) h k.added

@@ -3,14 +3,16 @@ use Rattle.std.proofs.Common.{◌≡◌, ℕ, zero, suc, ◌∙◌, sym, ap, ap�
 use Rattle.std.specs.Global.{Vec}
 use Rattle.std.specs.Vec.{with_items}
 use Rattle.std.proofs.lemmas.List.{reverse-append, with_items_is}
-use Rattle.fractions.specs.Rational.{ℚ, whole}
-use Rattle.duality.specs.Parts.{Part, Cut, NumberForm, WholeForm, bound, plane, lemma, at_most}
+use Rattle.exact_numbers.specs.Rational.{ℚ, whole}
+use Rattle.certificates.specs.Parts.{Part, Cut, NumberForm, WholeForm, bound, plane, lemma, at_most}
 use Rattle.exact_numbers.specs.declared.dec.Dec.{Dec}
 use Rattle.exact_checks.specs.Built.{AreWithin}
 use Rattle.exact_checks.specs.Lists.{form_of}
 use Rattle.exact_checks.specs.Terms.{AreTerms}
 use Rattle.exact_checks.specs.declared.form.Row.{Row}
-use Rattle.certificate_judge.specs.InsidePaths.{HasLeft, IsAt, IsLemma, IsLemmaWithin, IsMoreLemma, IsMoreRow, IsPath, IsPlaneRow, IsStepWithin, IsTurn, IsUnder, Sides, Turn, to_first, to_second, sides_of}
+use Rattle.certificate_judge.specs.InsidePaths.{HasLeft, IsAt, IsLemma, IsLemmaWithin, IsMoreLemma, IsMoreRow, IsPath}
+use Rattle.certificate_judge.specs.InsidePaths.{IsPlaneRow, IsStepWithin, IsTurn, IsUnder, Sides, Turn, to_first}
+use Rattle.certificate_judge.specs.InsidePaths.{to_second, sides_of}
 use Rattle.certificate_judge.specs.declared.path.Left.TheVariants.{Split, Plane, Shown, Last}
 use Rattle.certificate_judge.specs.declared.path.Lemma.{Lemma}
 use Rattle.certificate_judge.specs.declared.path.Path.{Path}
@@ -43,7 +45,9 @@ within_last n (s ∷ rows) r h = within_last n rows r (λ k x a. h (suc k) x a)
 
 -- ---- paths as such
 module _ (n : ℕ) (old new : Path) where
-  path_with : IsPath n old → length new.lo.items ≡ length old.lo.items → length new.hi.items ≡ length old.hi.items → All (IsStepWithin n) new.steps.items → AreWithin n new.added.items → All (IsLemmaWithin n) new.lemmas.items → IsPath n new
+  path_with : IsPath n old → length new.lo.items ≡ length old.lo.items → length new.hi.items ≡ length old.hi.items
+      → All (IsStepWithin n) new.steps.items → AreWithin n new.added.items → All (IsLemmaWithin n) new.lemmas.items
+      → IsPath n new
   path_with p lo hi steps added lemmas = record { lowers = lo ∙ p.lowers; uppers = hi ∙ p.uppers; steps = steps; added = added; lemmas = lemmas }
 
   step_more : (s : Step) → IsPath n old → IsStepWithin n s → new.steps.items ≡ old.steps.items ++ s ∷ [] → All (IsStepWithin n) new.steps.items
@@ -58,22 +62,32 @@ module _ (n : ℕ) (old new : Path) where
   lemmas_kept : IsPath n old → new.lemmas.items ≡ old.lemmas.items → All (IsLemmaWithin n) new.lemmas.items
   lemmas_kept p lemmas = subst (All (IsLemmaWithin n)) (sym lemmas) p.lemmas
 
-  pub path_down : (s : Step) → IsPath n old → IsStepWithin n s → length new.lo.items ≡ length old.lo.items → length new.hi.items ≡ length old.hi.items → new.added.items ≡ old.added.items → new.lemmas.items ≡ old.lemmas.items → new.steps.items ≡ old.steps.items ++ s ∷ [] → IsPath n new
+  pub path_down : (s : Step) → IsPath n old → IsStepWithin n s → length new.lo.items ≡ length old.lo.items
+      → length new.hi.items ≡ length old.hi.items → new.added.items ≡ old.added.items
+      → new.lemmas.items ≡ old.lemmas.items → new.steps.items ≡ old.steps.items ++ s ∷ [] → IsPath n new
   path_down s p w lo hi added lemmas steps = path_with p lo hi (step_more s p w steps) (rows_kept p added) (lemmas_kept p lemmas)
 
-  pub path_row : (s : Step) (r : Row) → IsPath n old → IsStepWithin n s → AreTerms 0 n r.body.terms → new.lo.items ≡ old.lo.items → new.hi.items ≡ old.hi.items → new.added.items ≡ old.added.items ++ r ∷ [] → new.lemmas.items ≡ old.lemmas.items → new.steps.items ≡ old.steps.items ++ s ∷ [] → IsPath n new
+  pub path_row : (s : Step) (r : Row) → IsPath n old → IsStepWithin n s → AreTerms 0 n r.body.terms
+      → new.lo.items ≡ old.lo.items → new.hi.items ≡ old.hi.items → new.added.items ≡ old.added.items ++ r ∷ []
+      → new.lemmas.items ≡ old.lemmas.items → new.steps.items ≡ old.steps.items ++ s ∷ [] → IsPath n new
   path_row s r p w t lo hi added lemmas steps =
       path_with p (ap length lo) (ap length hi) (step_more s p w steps) (subst (AreWithin n) (sym added) (within_more n old.added.items r p.added t)) (lemmas_kept p lemmas)
 
-  pub path_lemma : (s : Step) (l : Lemma) → IsPath n old → IsStepWithin n s → IsLemmaWithin n l → new.lo.items ≡ old.lo.items → new.hi.items ≡ old.hi.items → new.added.items ≡ old.added.items → new.lemmas.items ≡ old.lemmas.items ++ l ∷ [] → new.steps.items ≡ old.steps.items ++ s ∷ [] → IsPath n new
+  pub path_lemma : (s : Step) (l : Lemma) → IsPath n old → IsStepWithin n s → IsLemmaWithin n l
+      → new.lo.items ≡ old.lo.items → new.hi.items ≡ old.hi.items → new.added.items ≡ old.added.items
+      → new.lemmas.items ≡ old.lemmas.items ++ l ∷ [] → new.steps.items ≡ old.steps.items ++ s ∷ [] → IsPath n new
   path_lemma s l p w t lo hi added lemmas steps =
       path_with p (ap length lo) (ap length hi) (step_more s p w steps) (rows_kept p added) (subst (All (IsLemmaWithin n)) (sym lemmas) (All-push (IsLemmaWithin n) old.lemmas.items l p.lemmas t))
 
-  pub path_off : (s : Step) (r : Row) → IsPath n old → new.lo.items ≡ old.lo.items → new.hi.items ≡ old.hi.items → old.added.items ≡ new.added.items ++ r ∷ [] → new.lemmas.items ≡ old.lemmas.items → old.steps.items ≡ new.steps.items ++ s ∷ [] → IsPath n new
+  pub path_off : (s : Step) (r : Row) → IsPath n old → new.lo.items ≡ old.lo.items → new.hi.items ≡ old.hi.items
+      → old.added.items ≡ new.added.items ++ r ∷ [] → new.lemmas.items ≡ old.lemmas.items
+      → old.steps.items ≡ new.steps.items ++ s ∷ [] → IsPath n new
   path_off s r p lo hi added lemmas steps =
       path_with p (ap length lo) (ap length hi) (step_less s p steps) (within_less n new.added.items r (subst (AreWithin n) added p.added)) (lemmas_kept p lemmas)
 
-  pub path_shown : (s : Step) (l : Lemma) → IsPath n old → new.lo.items ≡ old.lo.items → new.hi.items ≡ old.hi.items → new.added.items ≡ old.added.items → old.lemmas.items ≡ new.lemmas.items ++ l ∷ [] → old.steps.items ≡ new.steps.items ++ s ∷ [] → IsPath n new
+  pub path_shown : (s : Step) (l : Lemma) → IsPath n old → new.lo.items ≡ old.lo.items → new.hi.items ≡ old.hi.items
+      → new.added.items ≡ old.added.items → old.lemmas.items ≡ new.lemmas.items ++ l ∷ []
+      → old.steps.items ≡ new.steps.items ++ s ∷ [] → IsPath n new
   path_shown s l p lo hi added lemmas steps =
       path_with p (ap length lo) (ap length hi) (step_less s p steps) (rows_kept p added) (All-pop (IsLemmaWithin n) old.lemmas.items new.lemmas.items (Some l) lemmas p.lemmas).0
 
@@ -84,14 +98,18 @@ module _ (n : ℕ) (old new : Path) where
   lemma_within l p lemmas = (All-pop (IsLemmaWithin n) old.lemmas.items new.lemmas.items (Some l) lemmas p.lemmas).1
 
 -- ---- steps down
-pub stepped : (base : Part) (turns : List Turn) (turn : Turn) (s : Step) (old new : Path) → new.steps.items ≡ old.steps.items ++ s ∷ [] → IsTurn turn s (sides_of old) (sides_of new) → IsAt base turns old → IsAt base (turn ∷ turns) new
+pub stepped : (base : Part) (turns : List Turn) (turn : Turn) (s : Step) (old new : Path)
+    → new.steps.items ≡ old.steps.items ++ s ∷ [] → IsTurn turn s (sides_of old) (sides_of new) → IsAt base turns old
+    → IsAt base (turn ∷ turns) new
 unfolding IsUnder
 stepped base turns turn s old new e is h = subst (λ steps. IsUnder base (turn ∷ turns) steps (sides_of new)) (sym (ap reverse e ∙ reverse-append old.steps.items (s ∷ []))) (sides_of old, is, h)
 
-pub put_back_hi : (up down : Sides) (i : ℕ) (b : Option Dec) → down.lo ≡ up.lo → slice_set down.hi i b ≡ up.hi → down.added ≡ up.added → down.lemmas ≡ up.lemmas → up ≡ record down { hi = slice_set down.hi i b }
+pub put_back_hi : (up down : Sides) (i : ℕ) (b : Option Dec) → down.lo ≡ up.lo → slice_set down.hi i b ≡ up.hi
+    → down.added ≡ up.added → down.lemmas ≡ up.lemmas → up ≡ record down { hi = slice_set down.hi i b }
 put_back_hi up down i b lo hi added lemmas k = record { lo = sym lo k; hi = sym hi k; added = sym added k; lemmas = sym lemmas k }
 
-pub put_back_lo : (up down : Sides) (i : ℕ) (b : Option Dec) → slice_set down.lo i b ≡ up.lo → down.hi ≡ up.hi → down.added ≡ up.added → down.lemmas ≡ up.lemmas → up ≡ record down { lo = slice_set down.lo i b }
+pub put_back_lo : (up down : Sides) (i : ℕ) (b : Option Dec) → slice_set down.lo i b ≡ up.lo → down.hi ≡ up.hi
+    → down.added ≡ up.added → down.lemmas ≡ up.lemmas → up ≡ record down { lo = slice_set down.lo i b }
 put_back_lo up down i b lo hi added lemmas k = record { lo = sym lo k; hi = sym hi k; added = sym added k; lemmas = sym lemmas k }
 
 pub one_row : (up down : Sides) (r : Row) → down.lo ≡ up.lo → down.hi ≡ up.hi → down.added ≡ up.added ++ r ∷ [] → down.lemmas ≡ up.lemmas → IsMoreRow up down r
@@ -125,7 +143,9 @@ pub match_none : {A : Type 0} (o : Option A) (P : Type 0) (Q : A → Type 0) →
 match_none None P Q e p = p
 match_none (Some a) P Q e p = absurd (cc)
 
-pub not_started : (base : Part) (turns : List Turn) (old new : Path) → old.steps.items ≡ [] → new.steps.items ≡ [] → new.lo.items ≡ old.lo.items → new.hi.items ≡ old.hi.items → new.added.items ≡ old.added.items → new.lemmas.items ≡ old.lemmas.items → IsAt base turns old → (turns ≡ []) × IsAt base [] new
+pub not_started : (base : Part) (turns : List Turn) (old new : Path) → old.steps.items ≡ [] → new.steps.items ≡ []
+    → new.lo.items ≡ old.lo.items → new.hi.items ≡ old.hi.items → new.added.items ≡ old.added.items
+    → new.lemmas.items ≡ old.lemmas.items → IsAt base turns old → (turns ≡ []) × IsAt base [] new
 unfolding IsUnder
 not_started base turns old new e none lo hi added lemmas h = by turns (subst (λ steps. IsUnder base turns steps (sides_of old)) (ap reverse e) h)
   where
@@ -137,22 +157,29 @@ not_started base turns old new e none lo hi added lemmas h = by turns (subst (λ
     by (turn ∷ rest) k = absurd k
 
 -- what a step was
-pub split_left : (i : ℕ) (t : ℤ) (before : Option Dec) (turn : Turn) (up down : Sides) → IsTurn turn (AtMost i t before) up down → (turn ≡ to_first (bound i t)) × (up ≡ record down { hi = slice_set down.hi i before })
+pub split_left : (i : ℕ) (t : ℤ) (before : Option Dec) (turn : Turn) (up down : Sides)
+    → IsTurn turn (AtMost i t before) up down → (turn ≡ to_first (bound i t))
+    × (up ≡ record down { hi = slice_set down.hi i before })
 split_left i t before (to_first (bound j s)) up down h = (ap₂ (λ a b. to_first (bound a b)) (sym h.0) (sym h.1), h.3)
 split_left i t before (to_second (bound j s)) up down h = absurd h
 split_left i t before turn up down h = absurd h
 
-pub last_left : (i : ℕ) (before : Option Dec) (turn : Turn) (up down : Sides) → IsTurn turn (AtLeast i before) up down → (cut : Cut) × (turn ≡ to_second cut) × (up ≡ record down { lo = slice_set down.lo i before })
+pub last_left : (i : ℕ) (before : Option Dec) (turn : Turn) (up down : Sides) → IsTurn turn (AtLeast i before) up down
+    → (cut : Cut) × (turn ≡ to_second cut) × (up ≡ record down { lo = slice_set down.lo i before })
 last_left i before (to_second (bound j s)) up down h = (bound j s, refl, h.1)
 last_left i before (to_first (bound j s)) up down h = absurd h
 last_left i before turn up down h = absurd h
 
-pub under_left : (t : ℤ) (turn : Turn) (up down : Sides) → IsTurn turn (Under t) up down → (form : WholeForm) × (turn ≡ to_first (plane form t)) × (r : Row) × IsPlaneRow form (at_most (whole t)) r × IsMoreRow up down r
+pub under_left : (t : ℤ) (turn : Turn) (up down : Sides) → IsTurn turn (Under t) up down
+    → (form : WholeForm) × (turn ≡ to_first (plane form t)) × (r : Row) × IsPlaneRow form (at_most (whole t)) r
+    × IsMoreRow up down r
 under_left t (to_first (plane form s)) up down h = (form, ap (λ a. to_first (plane form a)) (sym h.0), h.1.0, subst (λ a. IsPlaneRow form (at_most (whole a)) h.1.0) (sym h.0) h.1.1, h.1.2)
 under_left t (to_second (bound j s)) up down h = absurd h
 under_left t turn up down h = absurd h
 
-pub shown_left : (turn : Turn) (up down : Sides) → IsTurn turn Showing up down → (form : NumberForm) × (t : ℚ) × (turn ≡ to_first (lemma form t)) × (l : Lemma) × IsLemma form t l × IsMoreLemma up down l
+pub shown_left : (turn : Turn) (up down : Sides) → IsTurn turn Showing up down
+    → (form : NumberForm) × (t : ℚ) × (turn ≡ to_first (lemma form t)) × (l : Lemma) × IsLemma form t l
+    × IsMoreLemma up down l
 shown_left (to_first (lemma form s)) up down h = (form, s, refl, h.0, h.1, h.2)
 shown_left (to_second (bound j s)) up down h = absurd h
 shown_left turn up down h = absurd h
@@ -167,14 +194,18 @@ sides_same : (a b : Sides) → a.lo ≡ b.lo → a.hi ≡ b.hi → a.added ≡ b
 sides_same a b lo hi added lemmas i = record { lo = lo i; hi = hi i; added = added i; lemmas = lemmas i }
 
 -- a row, or a lemma, was taken off
-pub row_off : (up : Sides) (old new : Path) (r q : Row) → IsMoreRow up (sides_of old) r → new.lo.items ≡ old.lo.items → new.hi.items ≡ old.hi.items → old.added.items ≡ new.added.items ++ q ∷ [] → new.lemmas.items ≡ old.lemmas.items → (up ≡ sides_of new) × (r ≡ q)
+pub row_off : (up : Sides) (old new : Path) (r q : Row) → IsMoreRow up (sides_of old) r → new.lo.items ≡ old.lo.items
+    → new.hi.items ≡ old.hi.items → old.added.items ≡ new.added.items ++ q ∷ [] → new.lemmas.items ≡ old.lemmas.items
+    → (up ≡ sides_of new) × (r ≡ q)
 row_off up old new r q e lo hi added lemmas =
     let same = snoc_same up.added new.added.items r q (sym (ap (λ (s : Sides). s.added) e) ∙ added) in (
       sides_same up (sides_of new) (sym (lo ∙ ap (λ (s : Sides). s.lo) e)) (sym (hi ∙ ap (λ (s : Sides). s.hi) e)) same.0 (sym (lemmas ∙ ap (λ (s : Sides). s.lemmas) e)),
       same.1,
     )
 
-pub lemma_off : (up : Sides) (old new : Path) (l m : Lemma) → IsMoreLemma up (sides_of old) l → new.lo.items ≡ old.lo.items → new.hi.items ≡ old.hi.items → new.added.items ≡ old.added.items → old.lemmas.items ≡ new.lemmas.items ++ m ∷ [] → (up ≡ sides_of new) × (l ≡ m)
+pub lemma_off : (up : Sides) (old new : Path) (l m : Lemma) → IsMoreLemma up (sides_of old) l
+    → new.lo.items ≡ old.lo.items → new.hi.items ≡ old.hi.items → new.added.items ≡ old.added.items
+    → old.lemmas.items ≡ new.lemmas.items ++ m ∷ [] → (up ≡ sides_of new) × (l ≡ m)
 lemma_off up old new l m e lo hi added lemmas =
     let same = snoc_same up.lemmas new.lemmas.items l m (sym (ap (λ (s : Sides). s.lemmas) e) ∙ lemmas) in (
       sides_same up (sides_of new) (sym (lo ∙ ap (λ (s : Sides). s.lo) e)) (sym (hi ∙ ap (λ (s : Sides). s.hi) e)) (sym (added ∙ ap (λ (s : Sides). s.added) e)) same.0,
@@ -189,7 +220,10 @@ no_lemma up old l e none = (let some = ap (λ (s : Sides). length s.lemmas) e in
 
 -- ---- what a step up leaves
 module _ (base : Part) (turns : List Turn) (old new : Path) where
-  pub leaves_split : (i : ℕ) (t z : ℤ) (before : Option Dec) → old.steps.items ≡ new.steps.items ++ AtMost i t before ∷ [] → z ≡ t → new.lo.items ≡ old.lo.items → new.hi.items ≡ slice_set old.hi.items i before → new.added.items ≡ old.added.items → new.lemmas.items ≡ old.lemmas.items → IsAt base turns old → HasLeft (Split i z) base turns new
+  pub leaves_split : (i : ℕ) (t z : ℤ) (before : Option Dec)
+      → old.steps.items ≡ new.steps.items ++ AtMost i t before ∷ [] → z ≡ t → new.lo.items ≡ old.lo.items
+      → new.hi.items ≡ slice_set old.hi.items i before → new.added.items ≡ old.added.items
+      → new.lemmas.items ≡ old.lemmas.items → IsAt base turns old → HasLeft (Split i z) base turns new
   leaves_split i t z before steps is lo hi added lemmas h =
       let u = unstepped base turns (AtMost i t before) old new steps h in
       let l = split_left i t before u.turn u.up (sides_of old) u.step in (
@@ -198,7 +232,9 @@ module _ (base : Part) (turns : List Turn) (old new : Path) where
         subst (IsUnder base u.rest (reverse new.steps.items)) (l.1 ∙ sym (sides_same (sides_of new) (record (sides_of old) { hi = slice_set old.hi.items i before }) lo hi added lemmas)) u.under,
       )
 
-  pub leaves_last : (i : ℕ) (before : Option Dec) → old.steps.items ≡ new.steps.items ++ AtLeast i before ∷ [] → new.lo.items ≡ slice_set old.lo.items i before → new.hi.items ≡ old.hi.items → new.added.items ≡ old.added.items → new.lemmas.items ≡ old.lemmas.items → IsAt base turns old → HasLeft Last base turns new
+  pub leaves_last : (i : ℕ) (before : Option Dec) → old.steps.items ≡ new.steps.items ++ AtLeast i before ∷ []
+      → new.lo.items ≡ slice_set old.lo.items i before → new.hi.items ≡ old.hi.items → new.added.items ≡ old.added.items
+      → new.lemmas.items ≡ old.lemmas.items → IsAt base turns old → HasLeft Last base turns new
   leaves_last i before steps lo hi added lemmas h =
       let u = unstepped base turns (AtLeast i before) old new steps h in
       let l = last_left i before u.turn u.up (sides_of old) u.step in (
@@ -208,7 +244,9 @@ module _ (base : Part) (turns : List Turn) (old new : Path) where
         subst (IsUnder base u.rest (reverse new.steps.items)) (l.2 ∙ sym (sides_same (sides_of new) (record (sides_of old) { lo = slice_set old.lo.items i before }) lo hi added lemmas)) u.under,
       )
 
-  pub leaves_plane : (t z : ℤ) (r : Row) → old.steps.items ≡ new.steps.items ++ Under t ∷ [] → z ≡ t → new.lo.items ≡ old.lo.items → new.hi.items ≡ old.hi.items → old.added.items ≡ new.added.items ++ r ∷ [] → new.lemmas.items ≡ old.lemmas.items → IsAt base turns old → HasLeft (Plane r.body z) base turns new
+  pub leaves_plane : (t z : ℤ) (r : Row) → old.steps.items ≡ new.steps.items ++ Under t ∷ [] → z ≡ t
+      → new.lo.items ≡ old.lo.items → new.hi.items ≡ old.hi.items → old.added.items ≡ new.added.items ++ r ∷ []
+      → new.lemmas.items ≡ old.lemmas.items → IsAt base turns old → HasLeft (Plane r.body z) base turns new
   leaves_plane t z r steps is lo hi added lemmas h =
       let u = unstepped base turns (Under t) old new steps h in
       let l = under_left t u.turn u.up (sides_of old) u.step in
@@ -220,7 +258,9 @@ module _ (base : Part) (turns : List Turn) (old new : Path) where
         subst (IsUnder base u.rest (reverse new.steps.items)) off.0 u.under,
       )
 
-  pub leaves_proof : (s : Lemma) → old.steps.items ≡ new.steps.items ++ Showing ∷ [] → new.lo.items ≡ old.lo.items → new.hi.items ≡ old.hi.items → new.added.items ≡ old.added.items → old.lemmas.items ≡ new.lemmas.items ++ s ∷ [] → IsAt base turns old → HasLeft (Shown s) base turns new
+  pub leaves_proof : (s : Lemma) → old.steps.items ≡ new.steps.items ++ Showing ∷ [] → new.lo.items ≡ old.lo.items
+      → new.hi.items ≡ old.hi.items → new.added.items ≡ old.added.items → old.lemmas.items ≡ new.lemmas.items ++ s ∷ []
+      → IsAt base turns old → HasLeft (Shown s) base turns new
   leaves_proof s steps lo hi added lemmas h =
       let u = unstepped base turns Showing old new steps h in
       let l = shown_left u.turn u.up (sides_of old) u.step in
@@ -233,7 +273,9 @@ module _ (base : Part) (turns : List Turn) (old new : Path) where
         subst (IsUnder base u.rest (reverse new.steps.items)) off.0 u.under,
       )
 
-  pub leaves_over : (r : Row) → old.steps.items ≡ new.steps.items ++ Over ∷ [] → new.lo.items ≡ old.lo.items → new.hi.items ≡ old.hi.items → old.added.items ≡ new.added.items ++ r ∷ [] → new.lemmas.items ≡ old.lemmas.items → IsAt base turns old → HasLeft Last base turns new
+  pub leaves_over : (r : Row) → old.steps.items ≡ new.steps.items ++ Over ∷ [] → new.lo.items ≡ old.lo.items
+      → new.hi.items ≡ old.hi.items → old.added.items ≡ new.added.items ++ r ∷ [] → new.lemmas.items ≡ old.lemmas.items
+      → IsAt base turns old → HasLeft Last base turns new
   leaves_over r steps lo hi added lemmas h =
       let u = unstepped base turns Over old new steps h in
       let l = over_left u.turn u.up (sides_of old) u.step in

@@ -4,9 +4,9 @@ use Rattle.std.specs.Prelude.{if◌then◌else◌}
 use Rattle.std.proofs.Math.Path.{fun_ext}
 use Rattle.std.proofs.lemmas.Bool.{cases_eq, eq-eqb, ne_eqb}
 use Rattle.std.proofs.lemmas.List.{drop_all}
-use Rattle.fractions.specs.Rational.{ℚ, IsWhole, whole, zero_ℚ}
-use Rattle.fractions.proofs.Arithmetic.{whole_of}
-use Rattle.duality.specs.Parts.{factor_of, form_of as plane_form, number_factor as sum_at}
+use Rattle.exact_numbers.specs.Rational.{ℚ, IsWhole, whole, zero_ℚ}
+use Rattle.exact_numbers.proofs.RationalLaws.{whole_of}
+use Rattle.certificates.specs.Parts.{factor_of, form_of as plane_form, number_factor as sum_at}
 use Rattle.exact_numbers.specs.declared.frac.Frac.{Frac}
 use Rattle.exact_numbers.specs.Values.{frac_value}
 use Rattle.linear_program.specs.Coefs.{Term, AreAscending, AreBelow, coef_in, found, value_or_zero}
@@ -48,7 +48,10 @@ numbers_are from n (p ∷ ps) h j =
     (cases_eq j p.0)
 
 -- whole numbers are their own numerators
-whole_by : (p : Pair) (ps : List Pair) (j : ℕ) → IsWhole (number_value p.1) → sum_at (number_form ps) j ≡ whole (factor_of (whole_form ps) j) → (b : Bool) → (if b then number_value p.1 else sum_at (number_form ps) j) ≡ whole (if b then (number_value p.1).top else factor_of (whole_form ps) j)
+whole_by : (p : Pair) (ps : List Pair) (j : ℕ) → IsWhole (number_value p.1)
+    → sum_at (number_form ps) j ≡ whole (factor_of (whole_form ps) j) → (b : Bool)
+    → (if b then number_value p.1 else sum_at (number_form ps) j)
+    ≡ whole (if b then (number_value p.1).top else factor_of (whole_form ps) j)
 whole_by p ps j h rest true = whole_is (number_value p.1) h
 whole_by p ps j h rest false = rest
 
@@ -57,7 +60,9 @@ unfolding AreWholes
 wholes_are [] w j = refl
 wholes_are (p ∷ ps) w j = whole_by p ps j (w 0 p (omega arith)) (wholes_are ps (λ k d l. w (suc k) d (omega arith)) j) (j == p.0)
 
-pub plane_sum : (ps : List Pair) → All (λ (p : Pair). IsWhole (number_value p.1)) ps → (body : Body) → frac_value body.constant ≡ zero_ℚ → coef_in body.terms ≡ sum_at (number_form ps) → form_of body ≡ plane_form (whole_form ps)
+pub plane_sum : (ps : List Pair) → All (λ (p : Pair). IsWhole (number_value p.1)) ps → (body : Body)
+    → frac_value body.constant ≡ zero_ℚ → coef_in body.terms ≡ sum_at (number_form ps)
+    → form_of body ≡ plane_form (whole_form ps)
 unfolding AreWholes
 plane_sum ps w body constant sum =
     ap₂ (λ (a : ℚ) (g : ℕ → ℚ). record { constant = a; coefficient = g }) constant

@@ -1,11 +1,11 @@
 -- Where the walk stands, and what a node leads to.
 use Rattle.std.proofs.Common.{◌≡◌, ℕ, ◌+◌, ◌<◌, ◌≤◌, ◌∙◌, sym, ap, subst, List, [], ◌∷◌, length, take, drop, get_or, Option, Some, None, ℤ, All, true}
 use Rattle.std.specs.Option.{option_map}
-use Rattle.fractions.specs.Fits.{fits}
-use Rattle.fractions.specs.Rational.{ℚ, IsWhole}
-use Rattle.program_meaning.specs.Linear.{Linear, row_count, variable_count}
-use Rattle.duality.specs.Branch.{LeafFault, proof_fault}
-use Rattle.duality.specs.Parts.{Part, bound, lemma, plane, whole_part}
+use Rattle.exact_numbers.specs.Fits.{fits}
+use Rattle.exact_numbers.specs.Rational.{ℚ, IsWhole}
+use Rattle.linear_program.specs.Linear.{Linear, row_count, variable_count}
+use Rattle.certificates.specs.Branch.{LeafFault, proof_fault}
+use Rattle.certificates.specs.Parts.{Part, bound, lemma, plane, whole_part}
 use Rattle.certificates.specs.declared.certificate.CertificateNode.{CertificateNode}
 use Rattle.certificates.specs.declared.certificate.CertificateNode.TheVariants.{Split, Plane, Lemma}
 use Rattle.linear_program.specs.declared.number.Number.{Number}
@@ -117,7 +117,9 @@ module _ (f : Linear) (v : ℚ) (tree : CertificateTree) (nodes : List Certifica
               record {
                 turns = to_first (lemma (number_form lemma_here.own) (number_value t)) ∷ s.turns;
                 at = subst (λ ps. IsAt base (to_first (lemma (number_form ps) (number_value t)) ∷ s.turns) new) lemma_own (h base s.turns s.at);
-                on = subst (λ ps. OnWalk (variable_count f) base answer (drop (i + 1) nodes) ps (to_first (lemma (number_form lemma_here.own) (number_value t)) ∷ s.turns) k) (sym lemma_later) lemma_here.on;
+                on = subst (λ ps. OnWalk (variable_count f) base answer (drop (i + 1) nodes) ps
+                    (to_first (lemma (number_form lemma_here.own) (number_value t)) ∷ s.turns) k) (sym lemma_later)
+                    lemma_here.on;
               }
 
         -- a leaf
@@ -136,7 +138,9 @@ module _ (f : Linear) (v : ℚ) (tree : CertificateTree) (nodes : List Certifica
 
           module _ (o : Option Fault) (tested : option_map (leaf_fault_of k) o ≡ leaf_check goal (part_under base s.turns) k (bound_in (part_under base s.turns) goal own)) where
             pub leaf_stops : (g : Fault) → o ≡ Some g → Some (leaf_fault_of k g) ≡ answer
-            leaf_stops g is_some = sym (leaf_here.stops (leaf_fault_of k g) (leaf_tested (variable_count f) base answer rest s.turns k goal leaf_here.own own o leaf_own tested ∙ ap (option_map (leaf_fault_of k)) is_some))
+            leaf_stops g is_some = sym (leaf_here.stops (leaf_fault_of k g)
+                (leaf_tested (variable_count f) base answer rest s.turns k goal leaf_here.own own o leaf_own tested
+                ∙ ap (option_map (leaf_fault_of k)) is_some))
 
             pub after_leaf : o ≡ None → (new : Path) → IsAt base (next_turns s.turns) new → Stands (i + 1) later (k + 1) new
             after_leaf is_none new at =

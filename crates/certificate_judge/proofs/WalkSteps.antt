@@ -2,10 +2,10 @@
 use Rattle.std.proofs.Common.{◌≡◌, ℕ, suc, ◌+◌, ◌<◌, ◌≤◌, ◌∙◌, sym, ap, ap₂, subst, refl, arith, List, [], ◌∷◌, ◌++◌, length, length-append, take, drop, get_or, drop-cons, add-one, Option, None, ℤ}
 use Rattle.std.specs.Option.{option_map}
 use Rattle.std.proofs.lemmas.List.{drop_all, take_at, drop_at}
-use Rattle.fractions.specs.Rational.{ℚ, IsWhole}
-use Rattle.program_meaning.specs.Linear.{Linear, row_count, variable_count}
-use Rattle.duality.specs.Branch.{LeafFault, proof_fault, branch_fault}
-use Rattle.duality.specs.Parts.{Part, whole_part}
+use Rattle.exact_numbers.specs.Rational.{ℚ, IsWhole}
+use Rattle.linear_program.specs.Linear.{Linear, row_count, variable_count}
+use Rattle.certificates.specs.Branch.{LeafFault, proof_fault, branch_fault}
+use Rattle.certificates.specs.Parts.{Part, whole_part}
 use Rattle.certificates.specs.declared.certificate.CertificateNode.{CertificateNode}
 use Rattle.certificates.specs.declared.certificate.CertificateNode.TheVariants.{Split, Plane, Lemma, Duals, Weights}
 use Rattle.linear_program.specs.declared.number.Number.{Number}
@@ -36,13 +36,22 @@ module _ (own later rest : List Pair) (n : ℕ) (split : rest ≡ own ++ later) 
 pub walkable : (on_whole : ℕ → Type 0) (n m : ℕ) (tree : CertificateTree) → ((j : ℕ) → on_whole j → j < n) → IsTreeOver on_whole n m tree → IsWalkable n m tree
 unfolding IsTreeOver IsWalkable
 walkable on_whole n m (split j t a b) there h = (there j h.0, h.1, walkable on_whole n m a there h.2, walkable on_whole n m b there h.3)
-walkable on_whole n m (plane ps t a b) there h = (All-weaker (λ (p : Pair). on_whole p.0 × IsWhole (number_value p.1)) (λ (p : Pair). IsWhole (number_value p.1)) (λ p w. w.1) ps h.0, h.1, h.3, walkable on_whole n (suc m) a there h.4, walkable on_whole n (suc m) b there h.5)
+walkable on_whole n m (plane ps t a b) there h = (
+  All-weaker (λ (p : Pair). on_whole p.0 × IsWhole (number_value p.1))
+      (λ (p : Pair). IsWhole (number_value p.1)) (λ p w. w.1) ps h.0,
+  h.1,
+  h.3,
+  walkable on_whole n (suc m) a there h.4,
+  walkable on_whole n (suc m) b there h.5,
+)
 walkable on_whole n m (lemma ps t a b) there h = (h.0, h.2, walkable on_whole n m a there h.3, walkable on_whole n (suc m) b there h.4)
 walkable on_whole n m (duals ps) there h = indices_of 0 m ps h
 walkable on_whole n m (weights ps) there h = indices_of 0 m ps h
 
 -- ---- a walk begins
-pub walk_begins : (f : Linear) (v : ℚ) (tree : CertificateTree) (nodes : List CertificateNode) (pairs : List Pair) → IsWritten f tree nodes pairs → OnWalk (variable_count f) (whole_part f v) (proof_fault f v (tree_over (row_count f) tree)) nodes pairs [] 0
+pub walk_begins : (f : Linear) (v : ℚ) (tree : CertificateTree) (nodes : List CertificateNode) (pairs : List Pair)
+    → IsWritten f tree nodes pairs → OnWalk (variable_count f) (whole_part f v)
+    (proof_fault f v (tree_over (row_count f) tree)) nodes pairs [] 0
 unfolding proof_fault
 walk_begins f v tree nodes pairs h =
     subst (λ ns. OnWalk (variable_count f) (whole_part f v) (branch_fault (whole_part f v) 0 (tree_over (row_count f) tree)) ns pairs [] 0) h.nodes_are
@@ -83,7 +92,9 @@ module _ (n : ℕ) (base : Part) (answer : Option LeafFault) (nodes : List Certi
         by (Weights m) e = let a = walk_leaf Zero m e in front_there a.own a.later rest m a.split_pairs a.count_is
 
 -- ---- the test of a leaf, in code's words
-pub leaf_test : (n : ℕ) (base : Part) (answer : Option LeafFault) (pairs : List Pair) (turns : List Turn) (k : ℕ) (goal : Goal) (own : List Pair) → leaf_fault_here n base answer pairs turns k goal own ≡ leaf_check goal (part_under base turns) k (bound_in (part_under base turns) goal own)
+pub leaf_test : (n : ℕ) (base : Part) (answer : Option LeafFault) (pairs : List Pair) (turns : List Turn) (k : ℕ)
+    (goal : Goal) (own : List Pair) → leaf_fault_here n base answer pairs turns k goal own
+    ≡ leaf_check goal (part_under base turns) k (bound_in (part_under base turns) goal own)
 unfolding branch_fault tree_over
 leaf_test n base answer pairs turns k Objective own = refl
 leaf_test n base answer pairs turns k Zero own = refl

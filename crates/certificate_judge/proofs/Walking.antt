@@ -1,12 +1,12 @@
 -- A walk over the leaves of a written tree, with the subtrees that are still to come.
 use Rattle.std.proofs.Common.{◌≡◌, ℕ, suc, ◌+◌, ◌<◌, ◌∙◌, sym, ap, ap₂, subst, refl, List, [], ◌∷◌, ◌++◌, length, append-nil, append_assoc, Option, Some, None, ℤ, add_assoc, All, true}
 use Rattle.std.specs.Option.{option_or}
-use Rattle.fractions.specs.Fits.{fits}
-use Rattle.fractions.specs.Rational.{IsWhole}
-use Rattle.program_meaning.specs.Linear.{row_count}
-use Rattle.duality.specs.Branch.{LeafFault, BranchTree, leaves, split as split_tree, branch_fault}
-use Rattle.duality.specs.Parts.{Cut, Part, bound, form_of as plane_form, first_part, second_part, lemma as lemma_cut, plane as plane_cut, sum_of}
-use Rattle.duality.proofs.Parts.{rows_added}
+use Rattle.exact_numbers.specs.Fits.{fits}
+use Rattle.exact_numbers.specs.Rational.{IsWhole}
+use Rattle.linear_program.specs.Linear.{row_count}
+use Rattle.certificates.specs.Branch.{LeafFault, BranchTree, leaves, split as split_tree, branch_fault}
+use Rattle.certificates.specs.Parts.{Cut, Part, bound, form_of as plane_form, first_part, second_part, lemma as lemma_cut, plane as plane_cut, sum_of}
+use Rattle.certificates.proofs.Parts.{rows_added}
 use Rattle.certificates.specs.declared.certificate.CertificateNode.{CertificateNode}
 use Rattle.certificates.specs.declared.certificate.CertificateNode.TheVariants.{Split, Plane, Lemma}
 use Rattle.linear_program.specs.declared.number.Number.{Number}
@@ -58,7 +58,8 @@ data Placed (base : Part) (turns : List Turn) (parts : List Part) : Type 0 where
   over : parts ≡ [] → Placed base turns parts
   under : parts ≡ part_under base turns ∷ parts_left base turns → Placed base turns parts
 
-cut_place : (base : Part) (turns : List Turn) (p : Part) (parts : List Part) (cut : Cut) → Placed base turns (p ∷ parts) → Placed base (to_first cut ∷ turns) (first_part cut p ∷ second_part cut p ∷ parts)
+cut_place : (base : Part) (turns : List Turn) (p : Part) (parts : List Part) (cut : Cut) → Placed base turns (p ∷ parts)
+    → Placed base (to_first cut ∷ turns) (first_part cut p ∷ second_part cut p ∷ parts)
 cut_place base turns p parts cut (over e) = absurd (cc)
 cut_place base turns p parts cut (under e) =
     let first : p ≡ part_under base turns = cc in
@@ -163,7 +164,9 @@ module _ (n : ℕ) (base : Part) where
     unfolding nodes_in nodes_of pairs_in pairs_of parts_in AreTrees IsWalkable tree_over leaf_count
     at_split j t nodes on = by on.todos on.rest on.nodes_are on.pairs_are on.trees on.place
       where
-        cut_rest : (p : Part) (a b : CertificateTree) (more : List Todo) → faults_left k ((p, split j t a b) ∷ more) ≡ faults_left k ((first_part (bound j t) p, a) ∷ (second_part (bound j t) p, b) ∷ more)
+        cut_rest : (p : Part) (a b : CertificateTree) (more : List Todo)
+            → faults_left k ((p, split j t a b) ∷ more) ≡ faults_left k
+            ((first_part (bound j t) p, a) ∷ (second_part (bound j t) p, b) ∷ more)
         cut_rest p a b more = walk_cuts k p (split j t a b) (bound j t) (rows_in p) (rows_in p) a b more refl refl refl refl
 
         by : (todos : List Todo) → answer ≡ faults_left k todos → Split j t ∷ nodes ≡ nodes_in todos → pairs ≡ pairs_in todos → AreTrees todos → Placed base turns (parts_in todos) → AtSplit j t nodes
@@ -206,10 +209,13 @@ module _ (n : ℕ) (base : Part) where
         rows_second : (p : Part) (qs : List Pair) → suc (rows_in p) ≡ rows_in (second_part (plane_cut (whole_form qs) t) p)
         rows_second p qs = sym (rows_added p.program (plane_form (whole_form qs)) _)
 
-        cut_rest : (p : Part) (qs : List Pair) (a b : CertificateTree) (more : List Todo) → faults_left k ((p, plane qs t a b) ∷ more) ≡ faults_left k ((first_part (plane_cut (whole_form qs) t) p, a) ∷ (second_part (plane_cut (whole_form qs) t) p, b) ∷ more)
+        cut_rest : (p : Part) (qs : List Pair) (a b : CertificateTree) (more : List Todo)
+            → faults_left k ((p, plane qs t a b) ∷ more) ≡ faults_left k
+            ((first_part (plane_cut (whole_form qs) t) p, a) ∷ (second_part (plane_cut (whole_form qs) t) p, b) ∷ more)
         cut_rest p qs a b more = walk_cuts k p (plane qs t a b) (plane_cut (whole_form qs) t) (suc (rows_in p)) (suc (rows_in p)) a b more refl refl (rows_first p qs) (rows_second p qs)
 
-        by : (todos : List Todo) → answer ≡ faults_left k todos → Plane count t ∷ nodes ≡ nodes_in todos → pairs ≡ pairs_in todos → AreTrees todos → Placed base turns (parts_in todos) → AtPlane count t nodes
+        by : (todos : List Todo) → answer ≡ faults_left k todos → Plane count t ∷ nodes ≡ nodes_in todos
+            → pairs ≡ pairs_in todos → AreTrees todos → Placed base turns (parts_in todos) → AtPlane count t nodes
         by ((p, plane qs s a b) ∷ more) rest fine ps trees place =
             let one : length qs ≡ count = cc in
             let two : s ≡ t = cc in
@@ -250,10 +256,14 @@ module _ (n : ℕ) (base : Part) where
         rows_second : (p : Part) (qs : List Pair) → suc (rows_in p) ≡ rows_in (second_part (lemma_cut (number_form qs) (number_value t)) p)
         rows_second p qs = sym (rows_added p.program (sum_of (number_form qs)) _)
 
-        cut_rest : (p : Part) (qs : List Pair) (a b : CertificateTree) (more : List Todo) → faults_left k ((p, lemma qs t a b) ∷ more) ≡ faults_left k ((first_part (lemma_cut (number_form qs) (number_value t)) p, a) ∷ (second_part (lemma_cut (number_form qs) (number_value t)) p, b) ∷ more)
+        cut_rest : (p : Part) (qs : List Pair) (a b : CertificateTree) (more : List Todo)
+            → faults_left k ((p, lemma qs t a b) ∷ more) ≡ faults_left k
+            ((first_part (lemma_cut (number_form qs) (number_value t)) p, a)
+            ∷ (second_part (lemma_cut (number_form qs) (number_value t)) p, b) ∷ more)
         cut_rest p qs a b more = walk_cuts k p (lemma qs t a b) (lemma_cut (number_form qs) (number_value t)) (rows_in p) (suc (rows_in p)) a b more refl refl refl (rows_second p qs)
 
-        by : (todos : List Todo) → answer ≡ faults_left k todos → Lemma count t ∷ nodes ≡ nodes_in todos → pairs ≡ pairs_in todos → AreTrees todos → Placed base turns (parts_in todos) → AtLemma count t nodes
+        by : (todos : List Todo) → answer ≡ faults_left k todos → Lemma count t ∷ nodes ≡ nodes_in todos
+            → pairs ≡ pairs_in todos → AreTrees todos → Placed base turns (parts_in todos) → AtLemma count t nodes
         by ((p, lemma qs s a b) ∷ more) rest fine ps trees place =
             let one : length qs ≡ count = cc in
             let two : s ≡ t = cc in
@@ -297,7 +307,9 @@ module _ (n : ℕ) (base : Part) where
     unfolding nodes_in nodes_of pairs_in pairs_of parts_in AreTrees IsWalkable faults_left tree_over leaf_count
     at_leaf goal count nodes on = by goal on.todos on.rest on.nodes_are on.pairs_are on.trees on.place
       where
-        here : (g : Goal) (p : Part) (qs : List Pair) (more : List Todo) → length qs ≡ count → nodes ≡ nodes_in more → pairs ≡ qs ++ pairs_in more → AreIndices 0 (rows_in p) qs → AreTrees more → Placed base turns (p ∷ parts_in more)
+        here : (g : Goal) (p : Part) (qs : List Pair) (more : List Todo) → length qs ≡ count → nodes ≡ nodes_in more
+            → pairs ≡ qs ++ pairs_in more → AreIndices 0 (rows_in p) qs → AreTrees more
+            → Placed base turns (p ∷ parts_in more)
             → answer ≡ option_or (branch_fault p k (leaf_over (rows_in p) g qs)) (faults_left (k + 1) more) → AtLeaf g count nodes
         here g p qs more counted left ps numbers trees place rest =
             let is = part_is base turns p (parts_in more) place in
@@ -319,7 +331,8 @@ module _ (n : ℕ) (base : Part) where
               };
             }
 
-        by : (g : Goal) (todos : List Todo) → answer ≡ faults_left k todos → leaf_node g count ∷ nodes ≡ nodes_in todos → pairs ≡ pairs_in todos → AreTrees todos → Placed base turns (parts_in todos) → AtLeaf g count nodes
+        by : (g : Goal) (todos : List Todo) → answer ≡ faults_left k todos → leaf_node g count ∷ nodes ≡ nodes_in todos
+            → pairs ≡ pairs_in todos → AreTrees todos → Placed base turns (parts_in todos) → AtLeaf g count nodes
         by Objective ((p, duals qs) ∷ more) rest fine ps trees place = here Objective p qs more (cc) (cc) ps trees.0 trees.1 place rest
         by Zero ((p, weights qs) ∷ more) rest fine ps trees place = here Zero p qs more (cc) (cc) ps trees.0 trees.1 place rest
         by g todos rest fine ps trees place = absurd (cc)

@@ -1,15 +1,17 @@
 -- Numbers of pairs, written one by one.
-use Rattle.std.proofs.Common.{◌≡◌, ℕ, zero, suc, ◌+◌, ◌<◌, ◌≤◌, ◌==◌, ◌∙◌, sym, ap, subst, refl, arith, true, List, [], ◌∷◌, length, drop, map, get_or, set, ⊎_elim, length-set, get_or-set_same, get_or-set_other}
+use Rattle.std.proofs.Common.{◌≡◌, ℕ, zero, suc, ◌+◌, ◌<◌, ◌≤◌, ◌==◌, ◌∙◌, sym, ap, subst, refl, arith, true, List, []}
+use Rattle.std.proofs.Common.{◌∷◌, length, drop, map, get_or, set, ⊎_elim, length-set, get_or-set_same}
+use Rattle.std.proofs.Common.{get_or-set_other}
 use Rattle.std.specs.Prelude.{if◌then◌else◌, slice_get, option_map, Some, None}
 use Rattle.std.proofs.lemmas.Bool.{cases_eq, eq-eqb, ne_eqb}
 use Rattle.std.proofs.lemmas.List.{drop_all, length-map, same_lists}
 use Rattle.std.proofs.lemmas.Option.{get_or_from_slice_get, slice_get-map, slice_get_cases}
-use Rattle.fractions.specs.Fits.{fits}
-use Rattle.fractions.specs.Rational.{ℚ, zero_ℚ}
+use Rattle.exact_numbers.specs.Fits.{fits}
+use Rattle.exact_numbers.specs.Rational.{ℚ, zero_ℚ}
 use Rattle.exact_numbers.specs.declared.frac.Frac.{Frac}
 use Rattle.exact_numbers.specs.Values.{frac_value}
-use Rattle.program_meaning.specs.Elements.{elements_from}
-use Rattle.program_meaning.proofs.Elements.{elements_at, elements_length}
+use Rattle.linear_program.specs.Elements.{elements_from}
+use Rattle.linear_program.proofs.Elements.{elements_at, elements_length}
 use Rattle.certificates.specs.Certificates.{AreNumbers}
 use Rattle.linear_program.specs.Numbers.{Pair, number_of, spread, number_value}
 use Rattle.linear_program.proofs.ListLemmas.{rest_of}

@@ -1,8 +1,8 @@
 -- The way down to a leaf: the parts of the cuts that were entered, the last one first.
 use Rattle.std.specs.Prelude.{◌≡◌, ℕ, ◌<◌, pos, ◌+ℤ◌, List, [], ◌∷◌, ◌++◌, length, reverse, slice_set, Option, None, Some, All}
-use Rattle.fractions.specs.Rational.{ℚ, whole, zero_ℚ, neg_ℚ}
-use Rattle.program_meaning.specs.Linear.{Interval}
-use Rattle.duality.specs.Parts.{Part, Cut, WholeForm, NumberForm, bound, plane, lemma, form_of as plane_form, number_factor, capped, raised, at_most, at_least, first_part, second_part}
+use Rattle.exact_numbers.specs.Rational.{ℚ, whole, zero_ℚ, neg_ℚ}
+use Rattle.linear_program.specs.Linear.{Interval}
+use Rattle.certificates.specs.Parts.{Part, Cut, WholeForm, NumberForm, bound, plane, lemma, form_of as plane_form, number_factor, capped, raised, at_most, at_least, first_part, second_part}
 use Rattle.exact_numbers.specs.declared.dec.Dec.{Dec}
 use Rattle.exact_numbers.specs.Values.{frac_value}
 use Rattle.linear_program.specs.Intervals.{interval_of}

@@ -1,10 +1,10 @@
 -- What the answers of the code say.
 use Rattle.std.specs.Prelude.{ℕ, Option, Result, Ok, Err}
 use Rattle.std.specs.Option.{option_map}
-use Rattle.duality.specs.Branch.{LeafFault as LeafWords, row_side, bound_side, wide, open_gap}
-use Rattle.duality.specs.Certificate.{Cause as CauseWords, at_point, not_whole, objective_wide, at_ray, at_leaf, Judged, valued, refused, ClaimOutcome as OutcomeWords, holds, fails}
-use Rattle.duality.specs.Ray.{RayFault as RayWords, ray_row_wide, ray_row_broken, ray_bound_broken, ray_objective_wide, ray_no_better}
-use Rattle.duality.specs.Verdict.{Fault, at_row, at_bound, row_broken, bound_broken, too_wide}
+use Rattle.certificates.specs.Branch.{LeafFault as LeafWords, row_side, bound_side, wide, open_gap}
+use Rattle.certificates.specs.Certificate.{Cause as CauseWords, at_point, not_whole, objective_wide, at_ray, at_leaf, Judged, valued, refused, ClaimOutcome as OutcomeWords, holds, fails}
+use Rattle.certificates.specs.Ray.{RayFault as RayWords, ray_row_wide, ray_row_broken, ray_bound_broken, ray_objective_wide, ray_no_better}
+use Rattle.certificates.specs.Verdict.{Fault, at_row, at_bound, row_broken, bound_broken, too_wide}
 use Rattle.exact_numbers.specs.declared.frac.Frac.{Frac}
 use Rattle.exact_numbers.specs.Values.{frac_value}
 use Rattle.exact_checks.specs.Terms.{value_found}

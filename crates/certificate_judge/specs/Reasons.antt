@@ -1,11 +1,11 @@
 -- What is said of a certificate that shows nothing: of its point, its ray or a leaf.
 use Rattle.std.specs.Prelude.{◌≡◌, ℕ, ◌<◌, ◌^◌, true, List, ◌++◌, codes}
 use Rattle.std.specs.Fmt.{decimal}
-use Rattle.fractions.specs.Fits.{fits}
-use Rattle.duality.specs.Branch.{LeafFault, row_side, bound_side, wide, open_gap}
-use Rattle.duality.specs.Certificate.{Cause, at_point, not_whole, objective_wide, at_ray, at_leaf}
-use Rattle.duality.specs.Ray.{RayFault, ray_row_wide, ray_row_broken, ray_bound_broken, ray_objective_wide, ray_no_better}
-use Rattle.duality.specs.Verdict.{Place, at_row, at_bound, at_cost, Fault, row_broken, bound_broken, row_side_missing, bound_side_missing, too_wide}
+use Rattle.exact_numbers.specs.Fits.{fits}
+use Rattle.certificates.specs.Branch.{LeafFault, row_side, bound_side, wide, open_gap}
+use Rattle.certificates.specs.Certificate.{Cause, at_point, not_whole, objective_wide, at_ray, at_leaf}
+use Rattle.certificates.specs.Ray.{RayFault, ray_row_wide, ray_row_broken, ray_bound_broken, ray_objective_wide, ray_no_better}
+use Rattle.certificates.specs.Verdict.{Place, at_row, at_bound, at_cost, Fault, row_broken, bound_broken, row_side_missing, bound_side_missing, too_wide}
 use Rattle.exact_checks.specs.Reasons.{cause_text as point_text}
 use Rattle.exact_numbers.specs.Written.{frac_text}
 

@@ -1,12 +1,12 @@
 -- The walk over the leaves of a written tree.
 use Rattle.std.specs.Prelude.{◌≡◌, ℕ, suc, ◌<◌, true, List, Option, length, All}
-use Rattle.fractions.specs.Fits.{fits}
-use Rattle.fractions.specs.Rational.{IsWhole}
-use Rattle.program_meaning.specs.Linear.{Linear, row_count, variable_count}
-use Rattle.duality.specs.Branch.{LeafFault, duals_check, weights_check}
-use Rattle.duality.specs.Certificate.{ClaimOutcome, OutcomeSays}
-use Rattle.duality.specs.Parts.{Part}
-use Rattle.duality.specs.Verdict.{BoundVerdict, dual_bound}
+use Rattle.exact_numbers.specs.Fits.{fits}
+use Rattle.exact_numbers.specs.Rational.{IsWhole}
+use Rattle.linear_program.specs.Linear.{Linear, row_count, variable_count}
+use Rattle.certificates.specs.Branch.{LeafFault, duals_check, weights_check}
+use Rattle.certificates.specs.Certificate.{ClaimOutcome, OutcomeSays}
+use Rattle.certificates.specs.Parts.{Part}
+use Rattle.certificates.specs.Verdict.{BoundVerdict, dual_bound}
 use Rattle.certificates.specs.Certificates.{AreNumbers, CertificateTree, CertificateValue, IsCertificateOf, IsCutNumber, certificate_over, claim_outcome, duals, lemma, nodes_of, pairs_of, plane, split, weights}
 use Rattle.linear_program.specs.Numbers.{Pair, spread, number_value}
 use Rattle.certificates.specs.declared.certificate.CertificateNode.{CertificateNode}

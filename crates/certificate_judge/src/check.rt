@@ -1,9 +1,9 @@
 // The check of a certificate.
 ghost use Rattle.std.specs.Prelude.{◌≡◌, IfOk, Some, length};
-ghost use Rattle.program_meaning.specs.Linear.{row_count, value_at, variable_count};
-ghost use Rattle.duality.specs.Branch.{proof_fault};
-ghost use Rattle.duality.specs.Certificate.{alone, judged, unless_leaf, with_leaves, with_ray, with_proof};
-ghost use Rattle.duality.specs.Ray.{ray_fault};
+ghost use Rattle.linear_program.specs.Linear.{row_count, value_at, variable_count};
+ghost use Rattle.certificates.specs.Branch.{proof_fault};
+ghost use Rattle.certificates.specs.Certificate.{alone, judged, unless_leaf, with_leaves, with_ray, with_proof};
+ghost use Rattle.certificates.specs.Ray.{ray_fault};
 ghost use Rattle.exact_numbers.specs.Values.{frac_value};
 ghost use Rattle.certificates.specs.Certificates.{CertificateTree, HasTree, IsCertificateOf, tree_over};
 ghost use Rattle.linear_program.specs.Numbers.{spread};
@@ -196,7 +196,7 @@ fn certificate_outcome(
 /// the objective, or the first cause why not, of the point, the ray and the leaves in order. The
 /// memory for the walk is taken before it, as `check_tree` says. A leaf costs the terms of the rows
 /// that have a number, and of the objective.
-#[tactic(auto, using(duality::proofs::Shown::says, certificates::proofs::Given::is_certificate, exact_checks::proofs::SumLemmas::if_put))]
+#[tactic(auto, using(certificates::proofs::Shown::says, certificates::proofs::Given::is_certificate, exact_checks::proofs::SumLemmas::if_put))]
 pub fn check_certificate(
     alloc: Global,
     program: &Program,

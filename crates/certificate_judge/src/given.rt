@@ -1,6 +1,6 @@
 // The numbers of pairs, in a list with a place for each index.
 ghost use Rattle.std.specs.Prelude.{◌≡◌, IfOk, length, true};
-ghost use Rattle.fractions.specs.Fits.{fits};
+ghost use Rattle.exact_numbers.specs.Fits.{fits};
 ghost use Rattle.exact_numbers.specs.Values.{frac_value};
 ghost use Rattle.certificates.specs.Certificates.{AreNumbers};
 ghost use Rattle.linear_program.specs.Numbers.{spread, number_value};

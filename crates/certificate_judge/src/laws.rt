@@ -1,11 +1,11 @@
 // Laws of what is told; each is proved by a function with an empty body.
 ghost use Rattle.std.specs.Prelude.{◌≡◌, ◌<◌, ◌^◌};
-ghost use Rattle.program_meaning.specs.Linear.{Linear};
-ghost use Rattle.duality.specs.Branch.{LeafFault};
-ghost use Rattle.duality.specs.Certificate.{Cause, Certificate};
-ghost use Rattle.duality.specs.Problem.{Problem};
-ghost use Rattle.duality.specs.ProblemSays.{Denies};
-ghost use Rattle.duality.specs.Verdict.{Fault};
+ghost use Rattle.linear_program.specs.Linear.{Linear};
+ghost use Rattle.certificates.specs.Branch.{LeafFault};
+ghost use Rattle.certificates.specs.Certificate.{Cause, Certificate};
+ghost use Rattle.certificates.specs.Problem.{Problem};
+ghost use Rattle.certificates.specs.ProblemSays.{Denies};
+ghost use Rattle.certificates.specs.Verdict.{Fault};
 ghost use Rattle.exact_checks.specs.Reasons.{cause_text};
 ghost use Rattle.certificate_judge.specs.Reasons.{failed_text, fault_index, leaf_fault_text, IsShort, IsShortLeaf};
 

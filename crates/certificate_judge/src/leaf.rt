@@ -1,9 +1,9 @@
 // Whether a leaf closes.
 ghost use Rattle.std.specs.Prelude.{◌≡◌, ℕ, if◌then◌else◌, None, Some};
 ghost use Rattle.std.specs.Option.{option_map};
-ghost use Rattle.duality.specs.Branch.{is_as_good, open_gap};
-ghost use Rattle.duality.specs.Parts.{Part};
-ghost use Rattle.duality.specs.Verdict.{bound};
+ghost use Rattle.certificates.specs.Branch.{is_as_good, open_gap};
+ghost use Rattle.certificates.specs.Parts.{Part};
+ghost use Rattle.certificates.specs.Verdict.{bound};
 ghost use Rattle.exact_numbers.specs.Values.{frac_value};
 ghost use Rattle.exact_checks.specs.Answers.{bound_answer_of};
 ghost use Rattle.certificate_judge.specs.Outcomes.{leaf_fault_of};

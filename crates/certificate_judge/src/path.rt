@@ -1,9 +1,9 @@
 // The way down to a leaf: the bounds of the splits on it, the rows of its planes and of the lemmas
 // that it goes on with, and the lemmas in whose proofs it is.
 ghost use Rattle.std.specs.Prelude.{◌≡◌, ◌<◌, ◌+◌, ◌∷◌, ℕ, List, [], length, IfOk, IfSome, MatchOption, None, Some};
-ghost use Rattle.fractions.specs.Rational.{ℚ};
-ghost use Rattle.program_meaning.specs.Linear.{variable_count};
-ghost use Rattle.duality.specs.Parts.{NumberForm, Part, WholeForm, bound, form_of as plane_form, lemma, plane, whole_part};
+ghost use Rattle.exact_numbers.specs.Rational.{ℚ};
+ghost use Rattle.linear_program.specs.Linear.{variable_count};
+ghost use Rattle.certificates.specs.Parts.{NumberForm, Part, WholeForm, bound, form_of as plane_form, lemma, plane, whole_part};
 ghost use Rattle.certificates.specs.Certificates.{IsCutNumber};
 ghost use Rattle.exact_checks.specs.Lists.{form_of};
 ghost use Rattle.exact_checks.specs.Programs.{program_value};

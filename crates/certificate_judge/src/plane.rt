@@ -1,8 +1,8 @@
 // The rows of planes and lemmas.
 ghost use Rattle.std.specs.Prelude.{◌≡◌, ℕ, IfOk, All, true};
-ghost use Rattle.fractions.specs.Fits.{fits};
-ghost use Rattle.fractions.specs.Rational.{ℚ, IsWhole, whole};
-ghost use Rattle.duality.specs.Parts.{NumberForm, at_least, at_most, form_of as plane_form, number_factor};
+ghost use Rattle.exact_numbers.specs.Fits.{fits};
+ghost use Rattle.exact_numbers.specs.Rational.{ℚ, IsWhole, whole};
+ghost use Rattle.certificates.specs.Parts.{NumberForm, at_least, at_most, form_of as plane_form, number_factor};
 ghost use Rattle.linear_program.specs.Intervals.{interval_of};
 ghost use Rattle.linear_program.specs.Coefs.{coef_in};
 ghost use Rattle.certificates.specs.Certificates.{AreNumbers, number_form, whole_form};

@@ -1,9 +1,9 @@
 // Whether a point is feasible, and its value.
 ghost use Rattle.std.specs.Prelude.{◌≡◌, length, not, ◌&&◌, if◌then◌else◌, false, None, Some};
-ghost use Rattle.fractions.specs.Fits.{fits};
-ghost use Rattle.program_meaning.specs.Linear.{row_count, variable_at, variable_count};
-ghost use Rattle.duality.specs.Certificate.{can_compare, fitting_bound_fault, is_large, is_whole_number, judged, whole_fault, wholeness};
-ghost use Rattle.duality.specs.Verdict.{at_bound, bound_broken, first_fault, is_inside, is_not_above, is_not_below, row_check, row_fault, run_form, too_wide};
+ghost use Rattle.exact_numbers.specs.Fits.{fits};
+ghost use Rattle.linear_program.specs.Linear.{row_count, variable_at, variable_count};
+ghost use Rattle.certificates.specs.Certificate.{can_compare, fitting_bound_fault, is_large, is_whole_number, judged, whole_fault, wholeness};
+ghost use Rattle.certificates.specs.Verdict.{at_bound, bound_broken, first_fault, is_inside, is_not_above, is_not_below, row_check, row_fault, run_form, too_wide};
 ghost use Rattle.exact_numbers.specs.Values.{dec_value, frac_value};
 ghost use Rattle.linear_program.specs.Intervals.{interval_of};
 ghost use Rattle.exact_checks.specs.Programs.{program_value};
@@ -143,7 +143,7 @@ fn lacks_wholeness(asked: bool, value: Frac) -> bool
 }
 
 // The first variable that has to be whole, and is not.
-#[tactic(auto, using(exact_checks::proofs::Firsts::firsts, exact_checks::proofs::Rows::variables_counted), unfolding(duality::specs::Certificate::whole_fault))]
+#[tactic(auto, using(exact_checks::proofs::Firsts::firsts, exact_checks::proofs::Rows::variables_counted), unfolding(certificates::specs::Certificate::whole_fault))]
 fn first_not_whole(program: &Program, x: &[Frac]) -> Option<u32>
     requires { length x.now ≡ variable_count (program_value program.now) }
     ensures { result ≡ whole_fault (program_value program.now) (point_of x.now) }
@@ -170,7 +170,7 @@ fn objective_at(program: &Program, x: &[Frac]) -> Option<Frac>
 }
 
 // The value at the point, where that is feasible; or the first cause why there is none.
-#[tactic(auto, unfolding(duality::specs::Certificate::judged, duality::specs::Certificate::given_fault))]
+#[tactic(auto, unfolding(certificates::specs::Certificate::judged, certificates::specs::Certificate::given_fault))]
 pub(crate) fn judged(program: &Program, x: &[Frac]) -> Result<Frac, Cause>
     requires { length x.now ≡ variable_count (program_value program.now) }
     ensures { judged_of result ≡ judged (program_value program.now) (fractions_of x.now) }

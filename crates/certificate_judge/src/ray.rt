@@ -1,9 +1,9 @@
 // Whether a ray leads nowhere out, and makes the objective better.
 ghost use Rattle.std.specs.Prelude.{◌≡◌, length};
-ghost use Rattle.program_meaning.specs.Linear.{row_count, variable_count};
-ghost use Rattle.duality.specs.Branch.{is_as_good};
-ghost use Rattle.duality.specs.Ray.{ray_bound_fault, ray_fault, ray_objective_check, ray_row_check, ray_row_fault, recession, run_change};
-ghost use Rattle.duality.specs.Verdict.{first_fault, is_inside};
+ghost use Rattle.linear_program.specs.Linear.{row_count, variable_count};
+ghost use Rattle.certificates.specs.Branch.{is_as_good};
+ghost use Rattle.certificates.specs.Ray.{ray_bound_fault, ray_fault, ray_objective_check, ray_row_check, ray_row_fault, recession, run_change};
+ghost use Rattle.certificates.specs.Verdict.{first_fault, is_inside};
 ghost use Rattle.exact_numbers.specs.Values.{frac_value};
 ghost use Rattle.linear_program.specs.Intervals.{interval_of};
 ghost use Rattle.exact_checks.specs.Programs.{program_value};
@@ -111,7 +111,7 @@ fn objective_change(program: &Program, d: &[Frac]) -> Option<Frac>
 }
 
 // The first fault of a ray: rows, bounds, objective.
-#[tactic(auto, unfolding(duality::specs::Ray::ray_fault))]
+#[tactic(auto, unfolding(certificates::specs::Ray::ray_fault))]
 pub(crate) fn ray_fault(program: &Program, d: &[Frac]) -> Option<RayFault>
     requires { length d.now ≡ variable_count (program_value program.now) }
     ensures { ray_found result ≡ ray_fault (program_value program.now) (point_of d.now) }

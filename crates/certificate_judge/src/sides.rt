@@ -1,10 +1,10 @@
 // The sides of variables, and what a cut does to them.
 ghost use Rattle.std.specs.Prelude.{◌≡◌, ◌<◌, List, Option, length, slice_set, true, pos, ◌+ℤ◌};
 ghost use Rattle.exact_numbers.specs.declared.dec.Dec.{Dec as DecValue};
-ghost use Rattle.fractions.specs.Fits.{fits};
-ghost use Rattle.fractions.specs.Rational.{whole};
-ghost use Rattle.duality.specs.Checked.{is_at_most};
-ghost use Rattle.duality.specs.Parts.{capped, greatest, least, raised};
+ghost use Rattle.exact_numbers.specs.Fits.{fits};
+ghost use Rattle.exact_numbers.specs.Rational.{whole};
+ghost use Rattle.certificates.specs.Checked.{is_at_most};
+ghost use Rattle.certificates.specs.Parts.{capped, greatest, least, raised};
 ghost use Rattle.exact_numbers.specs.Values.{dec_value};
 ghost use Rattle.exact_checks.specs.Lists.{bounds_in};
 ghost use Rattle.exact_checks.specs.Terms.{side_value};

@@ -1,10 +1,10 @@
 // The walk over the nodes of a tree.
 ghost use Rattle.std.specs.Prelude.{◌≡◌, ◌+◌, ◌≤◌, ◌^◌, ℕ, List, [], length, IfOk};
 ghost use Rattle.std.specs.Option.{option_map};
-ghost use Rattle.fractions.specs.Rational.{ℚ};
-ghost use Rattle.program_meaning.specs.Linear.{row_count};
-ghost use Rattle.duality.specs.Branch.{proof_fault};
-ghost use Rattle.duality.specs.Parts.{whole_part};
+ghost use Rattle.exact_numbers.specs.Rational.{ℚ};
+ghost use Rattle.linear_program.specs.Linear.{row_count};
+ghost use Rattle.certificates.specs.Branch.{proof_fault};
+ghost use Rattle.certificates.specs.Parts.{whole_part};
 ghost use Rattle.exact_numbers.specs.Values.{frac_value};
 ghost use Rattle.certificates.specs.Certificates.{CertificateTree, tree_over, announced_pairs};
 ghost use Rattle.exact_checks.specs.Answers.{bound_answer_of};

@@ -1,16 +1,16 @@
 -- What is told of a claim, or of a proof by branches, is true of each problem that the linear program means.
 use Rattle.std.proofs.Common.{◌≡◌, ℕ, sym, subst, refl, [], Option, Some, None}
 use Rattle.std.proofs.lemmas.Option.{same_Some}
-use Rattle.fractions.specs.Rational.{ℚ}
-use Rattle.program_meaning.specs.Linear.{Linear, variable_count, row_count}
-use Rattle.duality.specs.Branch.{AreSplitsWhole, proof_fault}
-use Rattle.duality.specs.Certificate.{Cause, ClaimOutcome, fails, holds}
-use Rattle.duality.specs.Means.{Means}
-use Rattle.duality.specs.Parts.{IsWholeVariable}
-use Rattle.duality.specs.Problem.{Problem}
-use Rattle.duality.specs.ProblemSays.{Denies, IsShown, OutcomeSays}
-use Rattle.duality.specs.Told.{IsToldTrue, IsTrueOf, bound as told_bound, infeasible as told_infeasible}
-use Rattle.duality.proofs.Problems.{bounds, none_relaxed, outcomes}
+use Rattle.exact_numbers.specs.Rational.{ℚ}
+use Rattle.linear_program.specs.Linear.{Linear, variable_count, row_count}
+use Rattle.certificates.specs.Branch.{AreSplitsWhole, proof_fault}
+use Rattle.certificates.specs.Certificate.{Cause, ClaimOutcome, fails, holds}
+use Rattle.certificates.specs.Means.{Means}
+use Rattle.certificates.specs.Parts.{IsWholeVariable}
+use Rattle.certificates.specs.Problem.{Problem}
+use Rattle.certificates.specs.ProblemSays.{Denies, IsShown, OutcomeSays}
+use Rattle.certificates.specs.ToldMeaning.{IsToldTrue, IsTrueOf, bound as told_bound, infeasible as told_infeasible}
+use Rattle.certificates.proofs.Problems.{bounds, none_relaxed, outcomes}
 use Rattle.exact_numbers.specs.Values.{dec_value}
 use Rattle.linear_program.specs.Numbers.{spread}
 use Rattle.certificates.specs.Certificates.{CertificateTree, CertificateValue, Given, HasTree, HasWeights, IsAskedFor, IsCertificateOf, IsGivenOver, certificate_over, claim_outcome}
@@ -24,7 +24,9 @@ use Rattle.certificates.specs.declared.proof.Claim.TheVariants.{Value, Infeasibl
 use Rattle.certificates.proofs.Given.{is_certificate}
 
 -- ---- certificates
-claim_by : (p : Problem) (n m : ℕ) (claim : Claim) (g : Given) (tree : Option CertificateTree) → g.tree ≡ tree → IsAskedFor claim g → (o : Option ℚ) → IsShown p (certificate_over n m claim (record g { tree = tree })) o → IsToldTrue p (spread n g.point) (told_claim claim o)
+claim_by : (p : Problem) (n m : ℕ) (claim : Claim) (g : Given) (tree : Option CertificateTree) → g.tree ≡ tree
+    → IsAskedFor claim g → (o : Option ℚ) → IsShown p (certificate_over n m claim (record g { tree = tree })) o
+    → IsToldTrue p (spread n g.point) (told_claim claim o)
 claim_by p n m (Optimal k) g None e asked o h = absurd (subst HasTree e asked.1)
 claim_by p n m (Optimal k) g (Some tree) e asked o h = h
 claim_by p n m (Within k b) g None e asked o h = absurd (subst HasTree e asked.1)
@@ -44,20 +46,29 @@ module _ (f : Linear) (p : Problem) (means : Means f p) where
 
   says : (claim : Claim) (g : Given) → IsAskedFor claim g → IsOver g → (o : ClaimOutcome) → claim_outcome f claim g ≡ o → OutcomeSays p f (certificate_over (variable_count f) (row_count f) claim g) o
   says claim g asked fine o e =
-      subst (OutcomeSays p f (certificate_over (variable_count f) (row_count f) claim g)) e (outcomes f p means (certificate_over (variable_count f) (row_count f) claim g) (is_certificate f claim g asked fine))
+      subst (OutcomeSays p f (certificate_over (variable_count f) (row_count f) claim g)) e
+      (outcomes f p means (certificate_over (variable_count f) (row_count f) claim g)
+      (is_certificate f claim g asked fine))
 
   -- of what is given for a claim
-  pub given_true : (claim : Claim) (g : Given) → IsAskedFor claim g → IsOver g → (o : Option ℚ) → claim_outcome f claim g ≡ holds o → IsToldTrue p (spread (variable_count f) g.point) (told_claim claim o)
+  pub given_true : (claim : Claim) (g : Given) → IsAskedFor claim g → IsOver g → (o : Option ℚ)
+      → claim_outcome f claim g ≡ holds o → IsToldTrue p (spread (variable_count f) g.point) (told_claim claim o)
   given_true claim g asked fine o e = claim_by p (variable_count f) (row_count f) claim g g.tree refl asked o (says claim g asked fine (holds o) e)
 
-  pub given_denied : (claim : Claim) (g : Given) → IsAskedFor claim g → IsOver g → (cause : Cause) → claim_outcome f claim g ≡ fails cause → Denies p f (certificate_over (variable_count f) (row_count f) claim g) cause
+  pub given_denied : (claim : Claim) (g : Given) → IsAskedFor claim g → IsOver g → (cause : Cause)
+      → claim_outcome f claim g ≡ fails cause → Denies p f (certificate_over (variable_count f) (row_count f) claim g)
+      cause
   given_denied claim g asked fine cause e = says claim g asked fine (fails cause) e
 
   -- of a certificate
-  pub told_true : (c : CertificateValue) (h : IsCertificateOf f c) (o : Option ℚ) → claim_outcome f c.claim h.given ≡ holds o → IsToldTrue p (spread (variable_count f) h.given.point) (told_claim c.claim o)
+  pub told_true : (c : CertificateValue) (h : IsCertificateOf f c) (o : Option ℚ)
+      → claim_outcome f c.claim h.given ≡ holds o → IsToldTrue p (spread (variable_count f) h.given.point)
+      (told_claim c.claim o)
   told_true c h = given_true c.claim h.given h.asked h.fine
 
-  pub told_denied : (c : CertificateValue) (h : IsCertificateOf f c) (cause : Cause) → claim_outcome f c.claim h.given ≡ fails cause → Denies p f (certificate_over (variable_count f) (row_count f) c.claim h.given) cause
+  pub told_denied : (c : CertificateValue) (h : IsCertificateOf f c) (cause : Cause)
+      → claim_outcome f c.claim h.given ≡ fails cause → Denies p f
+      (certificate_over (variable_count f) (row_count f) c.claim h.given) cause
   told_denied c h = given_denied c.claim h.given h.asked h.fine
 
   -- ---- proofs by branches

@@ -1,9 +1,9 @@
 -- What is a certificate, or a proof, for a setting is one of each linear program whose setting it is.
 use Rattle.std.proofs.Common.{◌≡◌, ℕ, zero, suc, ◌<◌, List, [], ◌∷◌, length, get_or, IsTrue, All, refl, ap, subst, arith}
 use Rattle.std.proofs.lemmas.List.Elements.{All-weaker}
-use Rattle.fractions.specs.Rational.{IsWhole}
-use Rattle.program_meaning.specs.Linear.{Linear, no_variable, variable_count, row_count}
-use Rattle.duality.specs.Parts.{IsWholeVariable}
+use Rattle.exact_numbers.specs.Rational.{IsWhole}
+use Rattle.linear_program.specs.Linear.{Linear, no_variable, variable_count, row_count}
+use Rattle.certificates.specs.Parts.{IsWholeVariable}
 use Rattle.linear_program.specs.Intervals.{is_whole_kind}
 use Rattle.linear_program.specs.Numbers.{Pair, number_value}
 use Rattle.linear_program.specs.Programs.{IsLinear, LinearValue, linear_value, rows_from, variables_from}

@@ -1,7 +1,7 @@
 -- What a proof by branches says of a problem.
 use Rattle.std.specs.Prelude.{List}
-use Rattle.fractions.specs.Rational.{ℚ}
-use Rattle.duality.specs.Problem.{Problem, IsBound, IsBroken}
+use Rattle.exact_numbers.specs.Rational.{ℚ}
+use Rattle.certificates.specs.Problem.{Problem, IsBound, IsBroken}
 use Rattle.exact_numbers.specs.Values.{dec_value}
 use Rattle.certificates.specs.declared.proof.Claim.{Claim}
 use Rattle.certificates.specs.declared.proof.Claim.TheVariants.{Value, Infeasible}

@@ -2,12 +2,12 @@
 -- order (own profile of branch and bound; a leaf closes by a bound of linear programming duality);
 -- and what one is for a linear program.
 use Rattle.std.specs.Prelude.{◌≡◌, ℕ, ◌<◌, ◌≤◌, ◌^◌, ◌==◌, ℤ, List, [], ◌∷◌, ◌++◌, length, IsTrue, true, if◌then◌else◌, All}
-use Rattle.fractions.specs.Fits.{fits}
-use Rattle.fractions.specs.Rational.{ℚ, zero_ℚ}
-use Rattle.program_meaning.specs.Elements.{elements_from}
-use Rattle.program_meaning.specs.Linear.{Linear, variable_at, variable_count, row_count}
-use Rattle.duality.specs.Branch.{BranchTree, split as split_tree, duals as duals_leaf, weights as weights_leaf}
-use Rattle.duality.specs.Parts.{bound}
+use Rattle.exact_numbers.specs.Fits.{fits}
+use Rattle.exact_numbers.specs.Rational.{ℚ, zero_ℚ}
+use Rattle.linear_program.specs.Elements.{elements_from}
+use Rattle.linear_program.specs.Linear.{Linear, variable_at, variable_count, row_count}
+use Rattle.certificates.specs.Branch.{BranchTree, split as split_tree, duals as duals_leaf, weights as weights_leaf}
+use Rattle.certificates.specs.Parts.{bound}
 use Rattle.exact_numbers.specs.declared.dec.Dec.{Dec}
 use Rattle.exact_numbers.specs.Values.{dec_value}
 use Rattle.certificates.specs.declared.proof.Claim.{Claim}

@@ -1,7 +1,7 @@
 -- What certificates and proofs by branches are judged by, and what they are for it.
 use Rattle.std.specs.Prelude.{◌≡◌, ℕ, ◌<◌, ◌≤◌, ◌^◌, List, length, get_or, IsTrue, true, All}
-use Rattle.fractions.specs.Fits.{fits}
-use Rattle.program_meaning.specs.Linear.{Linear, row_count, variable_at, variable_count}
+use Rattle.exact_numbers.specs.Fits.{fits}
+use Rattle.linear_program.specs.Linear.{Linear, row_count, variable_at, variable_count}
 use Rattle.linear_program.specs.Intervals.{is_whole_kind}
 use Rattle.linear_program.specs.Programs.{LinearValue}
 use Rattle.linear_program.specs.declared.kind.Kind.{Kind}

@@ -1,7 +1,7 @@
 -- What is told of a claim whose certificate holds.
 use Rattle.std.specs.Prelude.{Option, option_map}
-use Rattle.fractions.specs.Rational.{ℚ}
-use Rattle.duality.specs.Told.{Told, optimal, within, bound, feasible, infeasible, unbounded, without_value}
+use Rattle.exact_numbers.specs.Rational.{ℚ}
+use Rattle.certificates.specs.ToldMeaning.{Told, optimal, within, bound, feasible, infeasible, unbounded, without_value}
 use Rattle.linear_program.specs.Numbers.{number_value}
 use Rattle.certificates.specs.declared.certificate.Claim.{Claim}
 use Rattle.certificates.specs.declared.certificate.Claim.TheVariants.{Optimal, Within, Bound, Feasible, Infeasible, Unbounded}

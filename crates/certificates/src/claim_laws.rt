@@ -1,13 +1,13 @@
 // What is told of claims and proofs; each law is proved by a function with an empty body.
 ghost use Rattle.std.specs.Prelude.{◌≡◌, None, Option};
-ghost use Rattle.fractions.specs.Rational.{ℚ};
-ghost use Rattle.program_meaning.specs.Linear.{Linear, row_count, variable_count};
-ghost use Rattle.duality.specs.Branch.{proof_fault};
-ghost use Rattle.duality.specs.Certificate.{Cause, fails, holds};
-ghost use Rattle.duality.specs.Means.{Means};
-ghost use Rattle.duality.specs.Problem.{Problem};
-ghost use Rattle.duality.specs.ProblemSays.{Denies};
-ghost use Rattle.duality.specs.Told.{IsToldTrue};
+ghost use Rattle.exact_numbers.specs.Rational.{ℚ};
+ghost use Rattle.linear_program.specs.Linear.{Linear, row_count, variable_count};
+ghost use Rattle.certificates.specs.Branch.{proof_fault};
+ghost use Rattle.certificates.specs.Certificate.{Cause, fails, holds};
+ghost use Rattle.certificates.specs.Means.{Means};
+ghost use Rattle.certificates.specs.Problem.{Problem};
+ghost use Rattle.certificates.specs.ProblemSays.{Denies};
+ghost use Rattle.certificates.specs.ToldMeaning.{IsToldTrue};
 ghost use Rattle.linear_program.specs.Numbers.{spread};
 ghost use Rattle.certificates.specs.Certificates.{CertificateValue, IsCertificateOf, certificate_over, claim_outcome};
 ghost use Rattle.certificates.specs.Proofs.{IsProofOf, ProofValue, claim_value, tree_over};

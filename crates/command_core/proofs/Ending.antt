@@ -1,10 +1,10 @@
 -- What each way to end a command says of its outcome and of the desk.
 use Rattle.std.proofs.Common.{◌≡◌, ◌≢◌, ◌∙◌, inl, inr, ◌⊎◌, ℕ, zero, suc, ◌<◌, ◌≤◌, List, Bool, true, false, drop, Option, Some, None, IfSome, refl, subst, arith}
 use Rattle.std.specs.Prelude.{IsTrue, Result, Ok, Err}
-use Rattle.texts.specs.declared.stop.Stop.{Stop}
-use Rattle.texts.specs.declared.stop.Stop.TheVariants.{Fault, Memory}
+use Rattle.text_base.specs.declared.stop.Stop.{Stop}
+use Rattle.text_base.specs.declared.stop.Stop.TheVariants.{Fault, Memory}
 use Rattle.std.specs.Io.KnownBytes.{Appends}
-use Rattle.desk.specs.Desk.{Meaning, Rose, OnlyInput}
+use Rattle.text_base.specs.Desk.{Meaning, Rose, OnlyInput}
 use Rattle.command_core.specs.declared.refused.Refusal.{Refusal}
 use Rattle.command_core.specs.InsideAnswer.{IsWorked, EndsBy, EndsWriting, status_of, told_by, HasWritten, HasStopped}
 use Rattle.command_core.specs.Outcome.{Outcome, BadWords, Untold, NoText, Refused, Done, Status, Written, IsQuiet, told_line, verdict_status}
@@ -55,10 +55,27 @@ not_five : (n : ℕ) → n ≤ 1 → n ≡ 5 → ⊥
 not_five n le e = absurd (omega (arith, le, e))
 
 not_quiet : (n : ℕ) → n ≤ 1 → IsQuiet n → ⊥
-not_quiet n le q = elim q [ inl e ↦ absurd (omega (arith, e, le)) | inr p ↦ elim p [ inl e ↦ absurd (omega (arith, e, le)) | inr r ↦ elim r [ inl e ↦ absurd (omega (arith, e, le)) | inr e ↦ absurd (omega (arith, e, le)) ] ] ]
+not_quiet n le q = elim q [
+  | inl e ↦ absurd (omega (arith, e, le))
+  | inr p ↦ elim p [
+    | inl e ↦ absurd (omega (arith, e, le))
+    | inr r ↦ elim r
+        [ inl e ↦ absurd (omega (arith, e, le)) | inr e ↦ absurd (omega (arith, e, le)) ]
+  ]
+]
 
 five_is_loud : IsQuiet 5 → ⊥
-five_is_loud q = elim q [ inl e ↦ absurd (omega (arith, e)) | inr p ↦ elim p [ inl e ↦ absurd (omega (arith, e)) | inr r ↦ elim r [ inl e ↦ absurd (omega (arith, e)) | inr e ↦ absurd (omega (arith, e)) ] ] ]
+five_is_loud q = elim q [
+  | inl e ↦ absurd (omega (arith, e))
+  | inr p ↦ elim p [
+    | inl e ↦ absurd (omega (arith, e))
+    | inr r ↦ elim r [
+      | inl e ↦ absurd (omega (arith, e))
+      | inr e ↦ absurd
+          (omega (arith, e))
+    ]
+  ]
+]
 
 no_line : (o : Outcome) (n : ℕ) (P : List ℕ → Type 0) → n ≤ 1 → IfSome (told_line o n) P
 no_line o n P le = rw (line_none o n le) tt
@@ -114,7 +131,9 @@ module _ (p : Promise) (judges : Bool) (old mid : Meaning) where
       }
 
   -- an input call failed, or a file has no text
-  pub missed_worked : ((o : Outcome) → p.comes o → Status o (Rose old.input_faults mid.input_faults) (Rose old.output_faults mid.output_faults) 4) → old.input_faults ≤ mid.input_faults → OnlyInput old mid → IsWorked p old mid InputFault
+  pub missed_worked : ((o : Outcome) → p.comes o → Status o (Rose old.input_faults mid.input_faults)
+      (Rose old.output_faults mid.output_faults) 4) → old.input_faults ≤ mid.input_faults → OnlyInput old mid
+      → IsWorked p old mid InputFault
   missed_worked status later rest =
       quiet_worked InputFault (λ le. absurd (omega (arith, le))) (λ e. absurd (omega (arith, e))) status (λ o h. refl)
       (λ q. absurd (elim q [ inl le ↦ omega (arith, le) | inr e ↦ omega (arith, e) ])) later (λ lt. refl) rest
@@ -130,7 +149,9 @@ module _ (p : Promise) (judges : Bool) (old mid : Meaning) where
       (λ o h. elim (j.knows o h) [ inl e ↦ rw e (inr (inr (inl refl))) | inr e ↦ rw e (inl refl) ]) (λ o h. elim (j.knows o h) [ inl e ↦ rw e tt | inr e ↦ rw e refl ])
       (λ q text is. j.left text is) (omega (arith, j.same)) (λ lt. absurd (omega (arith, lt, j.same))) j.rest
 
-  done_worked : (new : Meaning) (verdict : Bool) (bytes : List ℕ) → HasComeTo p judges old mid (Done verdict bytes) → (verdict ≡ true) ⊎ IsTrue judges → ByVerdict verdict (p.means bytes) p.denies → HasWritten bytes mid new → IsWorked p old new (IsDone verdict)
+  done_worked : (new : Meaning) (verdict : Bool) (bytes : List ℕ) → HasComeTo p judges old mid (Done verdict bytes)
+      → (verdict ≡ true) ⊎ IsTrue judges → ByVerdict verdict (p.means bytes) p.denies → HasWritten bytes mid new
+      → IsWorked p old new (IsDone verdict)
   done_worked new verdict bytes j may means h =
       let all : Appends old.written new.written bytes = subst (λ (w : Option (List ℕ)). Appends w new.written bytes) j.rest.written h.all in
       let le : verdict_status verdict ≤ 1 = low verdict in
@@ -173,7 +194,9 @@ module _ (p : Promise) (judges : Bool) (old mid : Meaning) where
       }
 
   -- the bytes of the outcome were written, or an output call failed
-  pub wrote_worked : (new : Meaning) (verdict : Bool) (bytes : List ℕ) (answer : Answer) → HasComeTo p judges old mid (Done verdict bytes) → (verdict ≡ true) ⊎ IsTrue judges → ByVerdict verdict (p.means bytes) p.denies → EndsWriting verdict bytes mid new answer → IsWorked p old new answer
+  pub wrote_worked : (new : Meaning) (verdict : Bool) (bytes : List ℕ) (answer : Answer)
+      → HasComeTo p judges old mid (Done verdict bytes) → (verdict ≡ true) ⊎ IsTrue judges
+      → ByVerdict verdict (p.means bytes) p.denies → EndsWriting verdict bytes mid new answer → IsWorked p old new answer
   wrote_worked new verdict bytes answer j may means (inl h) = rw h.0 (done_worked new verdict bytes j may means h.1)
   wrote_worked new verdict bytes answer j may means (inr h) = rw h.0 (output_worked new verdict bytes j h.1)
 
@@ -184,7 +207,8 @@ done_status true = (λ e. absurd (omega (arith, e)), λ e. absurd (omega (arith,
 done_status false = (λ e. absurd (omega (arith, e)), λ e. absurd (omega (arith, e)))
 
 -- where all files were read, words are known and no input call failed
-pub ends_status : {T : Type 0} (bytes : T → List ℕ) (judged : Result (Bool × T) (Stop Refusal)) (old new : Meaning) (answer : Answer) → EndsBy bytes judged old new answer → (status_of answer ≢ 3) × (status_of answer ≢ 4)
+pub ends_status : {T : Type 0} (bytes : T → List ℕ) (judged : Result (Bool × T) (Stop Refusal)) (old new : Meaning)
+    (answer : Answer) → EndsBy bytes judged old new answer → (status_of answer ≢ 3) × (status_of answer ≢ 4)
 ends_status bytes (Ok t) old new answer (inl h) = rw h.0 (done_status t.0)
 ends_status bytes (Ok t) old new answer (inr h) = rw h.0 (λ e. absurd (omega (arith, e)), λ e. absurd (omega (arith, e)))
 ends_status bytes (Err (Fault refusal)) old new answer h = rw h.0 (λ e. absurd (omega (arith, e)), λ e. absurd (omega (arith, e)))

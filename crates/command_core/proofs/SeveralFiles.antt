@@ -1,21 +1,23 @@
 -- Commands of files: exactly one outcome, and what each way to end them says.
 use Rattle.std.proofs.Common.{◌≡◌, inl, inr, ◌⊎◌, List, ℕ, Bool, true, false, refl, ap, ◌∙◌, sym, ap₂, ◌≢◌, ◌≤◌, ◌+◌, take, drop, Option, Some, None, Result, Ok, Err, subst, arith}
 use Rattle.command_core.specs.Outcome.{Outcome, BadWords, DoneOrRefused, Untold, NoText, Refused as IsRefusal, Done as IsDone, Status}
-use Rattle.texts.specs.Judged.{Rules}
-use Rattle.texts.specs.Reading.{HasFault, IsRead, last_of, lines_of}
-use Rattle.texts.specs.declared.fault.TextFault.{TextFault}
-use Rattle.texts.proofs.JudgedLemmas.{one_outcome}
+use Rattle.text_base.specs.Judged.{Rules}
+use Rattle.text_base.specs.Reading.{HasFault, IsRead, last_of, lines_of}
+use Rattle.text_base.specs.declared.fault.TextFault.{TextFault}
+use Rattle.text_base.proofs.JudgedLemmas.{one_outcome}
 use Rattle.command_core.specs.Told.{TellsFault}
 use Rattle.std.proofs.lemmas.Option.{same_Some}
 use Rattle.std.specs.Prelude.{IfOk, IsSomeAnd, IsTrue, option_map}
 use Rattle.std.specs.Global.{Vec}
 use Rattle.std.specs.List.{flat_map}
-use Rattle.desk.specs.Desk.{IsUnknown, Meaning, OnlyInput, Rose, Texts}
-use Rattle.texts.specs.declared.stop.Stop.{Stop}
-use Rattle.texts.specs.declared.stop.Stop.TheVariants.{Fault, Memory}
+use Rattle.text_base.specs.Desk.{IsUnknown, Meaning, OnlyInput, Rose, Texts}
+use Rattle.text_base.specs.declared.stop.Stop.{Stop}
+use Rattle.text_base.specs.declared.stop.Stop.TheVariants.{Fault, Memory}
 use Rattle.command_core.specs.InsideAnswer.{IsAtRest, IsCounted, IsWorked, Ends, EndsBy, EndsInPieces, status_of}
 use Rattle.command_core.specs.Promise.{Promise}
-use Rattle.command_core.specs.SeveralFiles.{ByVerdict, Comes, ComesBy, ComesInPieces, HasEnded, HasSaid, IsTextOf, ReadsFile, Reached, Meets, after_file, by_reached, desk_promise, judges_last, has_said, no_text, of_met, refused_with, saying, stops}
+use Rattle.command_core.specs.SeveralFiles.{ByVerdict, Comes, ComesBy, ComesInPieces, HasEnded, HasSaid, IsTextOf}
+use Rattle.command_core.specs.SeveralFiles.{ReadsFile, Reached, Meets, after_file, by_reached, desk_promise}
+use Rattle.command_core.specs.SeveralFiles.{judges_last, has_said, no_text, of_met, refused_with, saying, stops}
 use Rattle.command_core.specs.declared.refused.Refusal.{Refusal}
 use Rattle.command_core.specs.Transfer.{IsFrontRead, ReadsFront}
 use Rattle.command_core.specs.declared.answer.Answer.{Answer}
@@ -116,7 +118,9 @@ pub record IsSound (p : Promise) : Type 0 where
   pub last : (a b : List ℕ) → p.last a → p.last b → a ≡ b
   pub idle : (n : ℕ) → p.counts n n
 
-pub sound_end : (started : Option (List ℕ)) (comes : Outcome → Type 0) (counts : ℕ → ℕ → Type 0) (means : List ℕ → Type 0) (denies : Type 0) → HasOne IsPlain comes → ((n : ℕ) → counts n n) → IsSound (judges_last started comes counts means denies)
+pub sound_end : (started : Option (List ℕ)) (comes : Outcome → Type 0) (counts : ℕ → ℕ → Type 0)
+    (means : List ℕ → Type 0) (denies : Type 0) → HasOne IsPlain comes → ((n : ℕ) → counts n n)
+    → IsSound (judges_last started comes counts means denies)
 sound_end started comes counts means denies one idle = record {
   one = one;
   last = λ a b h k. same_Some a b (sym h ∙ k);
@@ -193,7 +197,8 @@ whole p = record { comes = λ o h. h; last = λ t h. h; counts = λ m n h. h; me
 
 module _ {V : Type 0} (reads : List ℕ → V → Type 0) (refuses : List ℕ → List ℕ → Type 0) where
   -- what is next is left where the file says its value
-  next_part : (texts : Texts) (file text : List ℕ) (value : V) (next : V → Promise) → texts file ≡ Some text → reads (take LIMIT text) value → IsPartOf (next value) (after_file reads refuses texts file next)
+  next_part : (texts : Texts) (file text : List ℕ) (value : V) (next : V → Promise) → texts file ≡ Some text
+      → reads (take LIMIT text) value → IsPartOf (next value) (after_file reads refuses texts file next)
   next_part texts file text value next is r =
       let met : Meets reads refuses (option_map (take LIMIT) (texts file)) (has_said value) = rw is r in
       record {
@@ -220,12 +225,15 @@ pub record HasFirst {V : Type 0} (reads : List ℕ → V → Type 0) (texts : Te
   pub says : reads (take LIMIT text) value
   pub rest : left ≡ Some (drop LIMIT text)
 
-first_by : {V : Type 0} (reads : List ℕ → V → Type 0) (told : Option Texts) (texts : Texts) (file bytes : List ℕ) (left : Option (List ℕ)) (value : V) → told ≡ Some texts → ReadsFront told file LIMIT bytes left → reads bytes value → HasFirst reads texts file left value
+first_by : {V : Type 0} (reads : List ℕ → V → Type 0) (told : Option Texts) (texts : Texts) (file bytes : List ℕ)
+    (left : Option (List ℕ)) (value : V) → told ≡ Some texts → ReadsFront told file LIMIT bytes left → reads bytes value
+    → HasFirst reads texts file left value
 first_by reads told texts file bytes left value is read says =
     let r : IsFrontRead texts file LIMIT bytes left = subst (λ (t : Option Texts). ReadsFront t file LIMIT bytes left) is read in
     record { text = r.text; named = r.named; says = subst (λ (b : List ℕ). reads b value) r.front says; rest = r.rest }
 
-first_of : {V : Type 0} (reads : List ℕ → V → Type 0) (texts : Texts) (file : List ℕ) (old new : Meaning) (value : V) → old.texts ≡ Some texts → HasSaid reads file old new value → HasFirst reads texts file new.left value
+first_of : {V : Type 0} (reads : List ℕ → V → Type 0) (texts : Texts) (file : List ℕ) (old new : Meaning) (value : V)
+    → old.texts ≡ Some texts → HasSaid reads file old new value → HasFirst reads texts file new.left value
 first_of reads texts file old new value is h = first_by reads old.texts texts file h.bytes new.left value is h.read h.says
 
 pub plain_known : (o : Outcome) → IsPlain o → IsKnown o
@@ -245,7 +253,9 @@ module _ (told : Texts → Promise) (judges : Bool) where
   pub begun : (old : Meaning) → HasComeDown told old old
   begun old = record { of = λ texts is. whole (told texts); same = refl; rest = OnlyInput-same old }
 
-  module _ {R V : Type 0} (seen : R → V) (reads : List ℕ → V → Type 0) (refuses : List ℕ → List ℕ → Type 0) (file : List ℕ) (next : Texts → V → Promise) (old mid new : Meaning) (h : HasComeDown (λ texts. after_file reads refuses texts file (next texts)) old mid) where
+  module _ {R V : Type 0} (seen : R → V) (reads : List ℕ → V → Type 0) (refuses : List ℕ → List ℕ → Type 0)
+      (file : List ℕ) (next : Texts → V → Promise) (old mid new : Meaning)
+      (h : HasComeDown (λ texts. after_file reads refuses texts file (next texts)) old mid) where
     -- one file more was read
     pub further : (value : R) → ReadsFile seen reads refuses file mid new (Ok value) → HasComeDown (λ texts. next texts (seen value)) old new
     further value read = record {
@@ -267,13 +277,17 @@ module _ (told : Texts → Promise) (judges : Bool) where
     knows_by None o x is h = inl h
     knows_by (Some texts) o x is h = inr ((s texts).one.one o h ∙ sym ((s texts).one.one x (is texts refl)))
 
-    left_by : (texts : Option Texts) (left : Option (List ℕ)) → ((t : Texts) → texts ≡ Some t → (text : List ℕ) × (told t).last text × (left ≡ Some (drop LIMIT text))) → (text : List ℕ) → (desk_promise judges told texts).last text → left ≡ Some (drop LIMIT text)
+    left_by : (texts : Option Texts) (left : Option (List ℕ))
+        → ((t : Texts) → texts ≡ Some t → (text : List ℕ) × (told t).last text × (left ≡ Some (drop LIMIT text)))
+        → (text : List ℕ) → (desk_promise judges told texts).last text → left ≡ Some (drop LIMIT text)
     left_by None left is text h = absurd cc
     left_by (Some texts) left is text h =
         let there = is texts refl in
         there.2 ∙ ap (λ (t : List ℕ). Some (drop LIMIT t)) ((s texts).last there.0 text there.1 h)
 
-    missed_by : (texts : Option Texts) (file : List ℕ) (input output : Type 0) (o : Outcome) → ((t : Texts) → texts ≡ Some t → t file ≡ None → (told t).comes NoText) → (input ⊎ IsUnknown texts file) → (desk_promise judges told texts).comes o → Status o input output 4
+    missed_by : (texts : Option Texts) (file : List ℕ) (input output : Type 0) (o : Outcome)
+        → ((t : Texts) → texts ≡ Some t → t file ≡ None → (told t).comes NoText) → (input ⊎ IsUnknown texts file)
+        → (desk_promise judges told texts).comes o → Status o input output 4
     missed_by texts file input output o none (inl rose) h = fault_status o input output (known_by texts o h) rose
     missed_by None file input output o none (inr unknown) h = absurd unknown
     missed_by (Some texts) file input output o none (inr unknown) h =
@@ -285,7 +299,9 @@ module _ (told : Texts → Promise) (judges : Bool) where
     idle None n = tt
     idle (Some texts) n = (s texts).idle n
 
-    module _ {R V : Type 0} (seen : R → V) (reads : List ℕ → V → Type 0) (refuses : List ℕ → List ℕ → Type 0) (file : List ℕ) (next : Texts → V → Promise) (old mid new : Meaning) (h : HasComeDown (λ texts. after_file reads refuses texts file (next texts)) old mid) where
+    module _ {R V : Type 0} (seen : R → V) (reads : List ℕ → V → Type 0) (refuses : List ℕ → List ℕ → Type 0)
+        (file : List ℕ) (next : Texts → V → Promise) (old mid new : Meaning)
+        (h : HasComeDown (λ texts. after_file reads refuses texts file (next texts)) old mid) where
       met_line : (texts : Texts) (text line : List ℕ) → texts file ≡ Some text → refuses (take LIMIT text) line → Meets reads refuses (option_map (take LIMIT) (texts file)) (refused_with line)
       met_line texts text line is r = rw is r
 
@@ -331,8 +347,12 @@ module _ (told : Texts → Promise) (judges : Bool) where
 
     -- ---- all files were read
 
-    module _ {R V : Type 0} (seen : R → V) (reads : List ℕ → V → Type 0) (refuses : List ℕ → List ℕ → Type 0) (file : List ℕ) (comes : V → Outcome → Type 0) (counts : V → ℕ → ℕ → Type 0) (means : V → List ℕ → Type 0) (denies : V → Type 0) (old before mid : Meaning)
-        (h : HasComeDown (λ texts. after_file reads refuses texts file (λ value. judges_last (texts file) (comes value) (counts value) (means value) (denies value))) old before) (value : R) (read : ReadsFile seen reads refuses file before mid (Ok value)) where
+    module _ {R V : Type 0} (seen : R → V) (reads : List ℕ → V → Type 0) (refuses : List ℕ → List ℕ → Type 0)
+        (file : List ℕ) (comes : V → Outcome → Type 0) (counts : V → ℕ → ℕ → Type 0) (means : V → List ℕ → Type 0)
+        (denies : V → Type 0) (old before mid : Meaning)
+        (h : HasComeDown (λ texts. after_file reads refuses texts file
+        (λ value. judges_last (texts file) (comes value) (counts value) (means value) (denies value))) old before)
+        (value : R) (read : ReadsFile seen reads refuses file before mid (Ok value)) where
       abbrev ending : Texts → V → Promise
       ending texts value = judges_last (texts file) (comes value) (counts value) (means value) (denies value)
 
@@ -350,7 +370,10 @@ module _ (told : Texts → Promise) (judges : Bool) where
         rest = down.rest;
       }
 
-      meant : (verdict : Bool) (bytes : List ℕ) (texts : Option Texts) → ((t : Texts) → texts ≡ Some t → IsPartOf (ending t (seen value)) (told t)) → ByVerdict verdict (means (seen value) bytes) (denies (seen value)) → ByVerdict verdict ((desk_promise judges told texts).means bytes) (desk_promise judges told texts).denies
+      meant : (verdict : Bool) (bytes : List ℕ) (texts : Option Texts)
+          → ((t : Texts) → texts ≡ Some t → IsPartOf (ending t (seen value)) (told t))
+          → ByVerdict verdict (means (seen value) bytes) (denies (seen value))
+          → ByVerdict verdict ((desk_promise judges told texts).means bytes) (desk_promise judges told texts).denies
       meant true bytes None part m = tt
       meant false bytes None part m = tt
       meant true bytes (Some texts) part m = (part texts refl).means bytes m
@@ -387,7 +410,9 @@ module _ (told : Texts → Promise) (judges : Bool) where
 
 -- ---- the first file of a command
 
-module _ {V : Type 0} {reads : List ℕ → V → Type 0} {refuses : List ℕ → List ℕ → Type 0} (d : AreRead reads refuses) (judges : Bool) (next : Texts → V → Promise) (s : (texts : Texts) (value : V) → IsSound (next texts value)) (file : List ℕ) where
+module _ {V : Type 0} {reads : List ℕ → V → Type 0} {refuses : List ℕ → List ℕ → Type 0} (d : AreRead reads refuses)
+    (judges : Bool) (next : Texts → V → Promise) (s : (texts : Texts) (value : V) → IsSound (next texts value))
+    (file : List ℕ) where
   abbrev from_first : Texts → Promise
   from_first texts = after_file reads refuses texts file (next texts)
 
@@ -395,11 +420,15 @@ module _ {V : Type 0} {reads : List ℕ → V → Type 0} {refuses : List ℕ �
   first_sound texts = sound_after reads refuses d texts file (next texts) (s texts)
 
   -- it ends the command
-  pub first_stopped : {R : Type 0} (seen : R → V) (n : ℕ) (old new : Meaning) (answer : Answer) → ReadsFile {R = R} seen reads refuses file old new (Err answer) → IsCounted (desk_promise judges from_first old.texts) old new n n answer
+  pub first_stopped : {R : Type 0} (seen : R → V) (n : ℕ) (old new : Meaning) (answer : Answer)
+      → ReadsFile {R = R} seen reads refuses file old new (Err answer)
+      → IsCounted (desk_promise judges from_first old.texts) old new n n answer
   first_stopped seen n old new answer read = stopped from_first judges first_sound seen reads refuses file next old old new (begun from_first judges old) n answer read
 
   -- it was read
-  pub first_down : {R : Type 0} (seen : R → V) (old new : Meaning) (value : R) → ReadsFile {R = R} seen reads refuses file old new (Ok value) → HasComeDown from_first judges (λ texts. next texts (seen value)) old new
+  pub first_down : {R : Type 0} (seen : R → V) (old new : Meaning) (value : R)
+      → ReadsFile {R = R} seen reads refuses file old new (Ok value)
+      → HasComeDown from_first judges (λ texts. next texts (seen value)) old new
   first_down seen old new value read = further from_first judges seen reads refuses file next old old new (begun from_first judges old) value read
 
 -- ---- the last file of a command
@@ -426,7 +455,10 @@ module _ {V : Type 0} {reads : List ℕ → V → Type 0} {refuses : List ℕ �
   }
 
   -- it is accepted with bytes or refused with a line, in so many steps at most
-  pub either_last : (accepts denies : V → List ℕ → Type 0) (steps : V → ℕ) → ((value : V) → IsEither (accepts value) (denies value)) → IsLast false reads refuses (λ value. DoneOrRefused (accepts value) (denies value)) (λ value old new. new ≤ old + steps value)
+  pub either_last : (accepts denies : V → List ℕ → Type 0) (steps : V → ℕ)
+      → ((value : V) → IsEither (accepts value) (denies value))
+      → IsLast false reads refuses (λ value. DoneOrRefused (accepts value) (denies value))
+      (λ value old new. new ≤ old + steps value)
   either_last accepts denies steps either = record {
     read = read;
     one = λ value. one_of_both (accepts value) (denies value) (either value);
@@ -435,7 +467,8 @@ module _ {V : Type 0} {reads : List ℕ → V → Type 0} {refuses : List ℕ �
   }
 
   -- it has a verdict
-  pub verdict_last : (outcome : V → Outcome) (steps : V → ℕ) → ((value : V) → IsPlain (outcome value)) → IsLast true reads refuses (λ value other. other ≡ outcome value) (λ value old new. new ≤ old + steps value)
+  pub verdict_last : (outcome : V → Outcome) (steps : V → ℕ) → ((value : V) → IsPlain (outcome value))
+      → IsLast true reads refuses (λ value other. other ≡ outcome value) (λ value old new. new ≤ old + steps value)
   verdict_last outcome steps plain = record {
     read = read;
     one = λ value. same_one (outcome value) (plain value);
@@ -443,12 +476,16 @@ module _ {V : Type 0} {reads : List ℕ → V → Type 0} {refuses : List ℕ �
     verdict = λ value holds bytes e. inr refl;
   }
 
-judged_so : {T : Type 0} (bytes : T → List ℕ) (judges : Bool) (comes : Outcome → Type 0) (means : List ℕ → Type 0) (denies : Type 0) (judged : Result (Bool × T) (Stop Refusal)) → ((holds : Bool) (bytes : List ℕ) → comes (IsDone holds bytes) → (holds ≡ true) ⊎ IsTrue judges)
+judged_so : {T : Type 0} (bytes : T → List ℕ) (judges : Bool) (comes : Outcome → Type 0) (means : List ℕ → Type 0)
+    (denies : Type 0) (judged : Result (Bool × T) (Stop Refusal))
+    → ((holds : Bool) (bytes : List ℕ) → comes (IsDone holds bytes) → (holds ≡ true) ⊎ IsTrue judges)
     → ComesBy bytes comes judged → IfOk judged (λ t. ByVerdict t.0 (means (bytes t.1)) denies) → IfOk judged (λ t. ((t.0 ≡ true) ⊎ IsTrue judges) × ByVerdict t.0 (means (bytes t.1)) denies)
 judged_so bytes judges comes means denies (Ok t) may is m = (may t.0 (bytes t.1) is, m)
 judged_so bytes judges comes means denies (Err stop) may is m = tt
 
-module _ {judges : Bool} {V : Type 0} {reads : List ℕ → V → Type 0} {refuses : List ℕ → List ℕ → Type 0} {comes : V → Outcome → Type 0} {counts : V → ℕ → ℕ → Type 0} (l : IsLast judges reads refuses comes counts) (means : V → List ℕ → Type 0) (denies : V → Type 0) (file : List ℕ) where
+module _ {judges : Bool} {V : Type 0} {reads : List ℕ → V → Type 0} {refuses : List ℕ → List ℕ → Type 0}
+    {comes : V → Outcome → Type 0} {counts : V → ℕ → ℕ → Type 0} (l : IsLast judges reads refuses comes counts)
+    (means : V → List ℕ → Type 0) (denies : V → Type 0) (file : List ℕ) where
   abbrev the_end : Texts → V → Promise
   the_end texts value = judges_last (texts file) (comes value) (counts value) (means value) (denies value)
 
@@ -464,70 +501,99 @@ module _ {judges : Bool} {V : Type 0} {reads : List ℕ → V → Type 0} {refus
   -- of a command that has come down to it
   module _ (told : Texts → Promise) (s : (texts : Texts) → IsSound (told texts)) (old mid : Meaning) (down : HasComeDown told judges from_last old mid) where
     -- it ends the command
-    pub last_stopped : {R : Type 0} (seen : R → V) (n : ℕ) (new : Meaning) (answer : Answer) → ReadsFile {R = R} seen reads refuses file mid new (Err answer) → IsCounted (desk_promise judges told old.texts) old new n n answer
+    pub last_stopped : {R : Type 0} (seen : R → V) (n : ℕ) (new : Meaning) (answer : Answer)
+        → ReadsFile {R = R} seen reads refuses file mid new (Err answer)
+        → IsCounted (desk_promise judges told old.texts) old new n n answer
     last_stopped seen n new answer read = stopped told judges s seen reads refuses file the_end old mid new down n answer read
 
     -- all was judged
-    last_ended_by : {T : Type 0} (bytes : T → List ℕ) → {R : Type 0} (seen : R → V) (new : Meaning) (value : R) → ReadsFile {R = R} seen reads refuses file mid new (Ok value) → (m n : ℕ) (last : Meaning) (judged : Result (Bool × T) (Stop Refusal)) (answer : Answer)
-        → ComesBy bytes (comes (seen value)) judged → IfOk judged (λ t. ByVerdict t.0 (means (seen value) (bytes t.1)) (denies (seen value))) → EndsBy bytes judged new last answer → m ≤ n → counts (seen value) m n
+    last_ended_by : {T : Type 0} (bytes : T → List ℕ) → {R : Type 0} (seen : R → V) (new : Meaning) (value : R)
+        → ReadsFile {R = R} seen reads refuses file mid new (Ok value)
+        → (m n : ℕ) (last : Meaning) (judged : Result (Bool × T) (Stop Refusal)) (answer : Answer)
+        → ComesBy bytes (comes (seen value)) judged → IfOk judged
+        (λ t. ByVerdict t.0 (means (seen value) (bytes t.1)) (denies (seen value)))
+        → EndsBy bytes judged new last answer → m ≤ n → counts (seen value) m n
         → IsCounted (desk_promise judges told old.texts) old last m n answer
     last_ended_by bytes seen new value read m n last judged answer is meant end above c =
         ended_by told judges s seen reads refuses file comes counts means denies old mid new down value read bytes m n last judged answer is
         (judged_so bytes judges (comes (seen value)) (means (seen value)) (denies (seen value)) judged (l.verdict (seen value)) is meant) end above c
 
-    pub last_ended : {R : Type 0} (seen : R → V) (new : Meaning) (value : R) → ReadsFile {R = R} seen reads refuses file mid new (Ok value) → (m n : ℕ) (last : Meaning) (judged : Result (Bool × Vec ℕ) (Stop Refusal)) (answer : Answer)
+    pub last_ended : {R : Type 0} (seen : R → V) (new : Meaning) (value : R)
+        → ReadsFile {R = R} seen reads refuses file mid new (Ok value)
+        → (m n : ℕ) (last : Meaning) (judged : Result (Bool × Vec ℕ) (Stop Refusal)) (answer : Answer)
         → Comes (comes (seen value)) judged → IfOk judged (λ t. ByVerdict t.0 (means (seen value) t.1.items) (denies (seen value))) → Ends judged new last answer → m ≤ n → counts (seen value) m n
         → IsCounted (desk_promise judges told old.texts) old last m n answer
     last_ended seen new value read = last_ended_by (λ v. v.items) seen new value read
 
   -- of a command of this file alone
-  pub only_stopped : {R : Type 0} (seen : R → V) (n : ℕ) (old new : Meaning) (answer : Answer) → ReadsFile {R = R} seen reads refuses file old new (Err answer) → IsCounted (desk_promise judges from_last old.texts) old new n n answer
+  pub only_stopped : {R : Type 0} (seen : R → V) (n : ℕ) (old new : Meaning) (answer : Answer)
+      → ReadsFile {R = R} seen reads refuses file old new (Err answer)
+      → IsCounted (desk_promise judges from_last old.texts) old new n n answer
   only_stopped seen n old new answer read = last_stopped from_last last_sound old old (begun from_last judges old) seen n new answer read
 
-  pub only_ended : {R : Type 0} (seen : R → V) (old new : Meaning) (value : R) → ReadsFile {R = R} seen reads refuses file old new (Ok value) → (m n : ℕ) (last : Meaning) (judged : Result (Bool × Vec ℕ) (Stop Refusal)) (answer : Answer)
+  pub only_ended : {R : Type 0} (seen : R → V) (old new : Meaning) (value : R)
+      → ReadsFile {R = R} seen reads refuses file old new (Ok value)
+      → (m n : ℕ) (last : Meaning) (judged : Result (Bool × Vec ℕ) (Stop Refusal)) (answer : Answer)
       → Comes (comes (seen value)) judged → IfOk judged (λ t. ByVerdict t.0 (means (seen value) t.1.items) (denies (seen value))) → Ends judged new last answer → m ≤ n → counts (seen value) m n
       → IsCounted (desk_promise judges from_last old.texts) old last m n answer
   only_ended seen old new value read = last_ended from_last last_sound old old (begun from_last judges old) seen new value read
 
   -- the same, with the bytes in pieces
-  pub ended_in_pieces : {R : Type 0} (seen : R → V) (old new : Meaning) (value : R) → ReadsFile {R = R} seen reads refuses file old new (Ok value) → (m n : ℕ) (last : Meaning) (judged : Result (Bool × Vec (Vec ℕ)) (Stop Refusal)) (answer : Answer)
-      → ComesInPieces (comes (seen value)) judged → IfOk judged (λ t. ByVerdict t.0 (means (seen value) (flat_map (λ p. p.items) t.1.items)) (denies (seen value))) → EndsInPieces judged new last answer → m ≤ n → counts (seen value) m n
+  pub ended_in_pieces : {R : Type 0} (seen : R → V) (old new : Meaning) (value : R)
+      → ReadsFile {R = R} seen reads refuses file old new (Ok value)
+      → (m n : ℕ) (last : Meaning) (judged : Result (Bool × Vec (Vec ℕ)) (Stop Refusal)) (answer : Answer)
+      → ComesInPieces (comes (seen value)) judged → IfOk judged
+      (λ t. ByVerdict t.0 (means (seen value) (flat_map (λ p. p.items) t.1.items)) (denies (seen value)))
+      → EndsInPieces judged new last answer → m ≤ n → counts (seen value) m n
       → IsCounted (desk_promise judges from_last old.texts) old last m n answer
   ended_in_pieces seen old new value read = last_ended_by from_last last_sound old old (begun from_last judges old) (λ v. flat_map (λ p. p.items) v.items) seen new value read
 
 -- ---- a command of two files
 
-module _ {judges : Bool} {V W : Type 0} {reads : List ℕ → V → Type 0} {refuses : List ℕ → List ℕ → Type 0} {reads_second : V → List ℕ → W → Type 0} {refuses_second : V → List ℕ → List ℕ → Type 0} {comes : V → W → Outcome → Type 0} {counts : V → W → ℕ → ℕ → Type 0}
-    (d : AreRead reads refuses) (l : (value : V) → IsLast judges (reads_second value) (refuses_second value) (comes value) (counts value)) (means : V → W → List ℕ → Type 0) (denies : V → W → Type 0) (file second : List ℕ) where
-  abbrev from_second : Texts → V → Promise
-  from_second texts value = from_last (l value) (means value) (denies value) second texts
+module _ {judges : Bool} {V W : Type 0} {reads : List ℕ → V → Type 0} {refuses : List ℕ → List ℕ → Type 0}
+    {reads_second : V → List ℕ → W → Type 0} {refuses_second : V → List ℕ → List ℕ → Type 0}
+    {comes : V → W → Outcome → Type 0} {counts : V → W → ℕ → ℕ → Type 0}
+    (d : AreRead reads refuses) (l : (value : V) → IsLast judges (reads_second value) (refuses_second value)
+    (comes value) (counts value)) (means : V → W → List ℕ → Type 0) (denies : V → W → Type 0) (file second : List ℕ)
+  where
+    abbrev from_second : Texts → V → Promise
+    from_second texts value = from_last (l value) (means value) (denies value) second texts
 
-  second_sound : (texts : Texts) (value : V) → IsSound (from_second texts value)
-  second_sound texts value = last_sound (l value) (means value) (denies value) second texts
+    second_sound : (texts : Texts) (value : V) → IsSound (from_second texts value)
+    second_sound texts value = last_sound (l value) (means value) (denies value) second texts
 
-  abbrev from_both : Texts → Promise
-  from_both texts = after_file reads refuses texts file (from_second texts)
+    abbrev from_both : Texts → Promise
+    from_both texts = after_file reads refuses texts file (from_second texts)
 
-  pub both_sound : (texts : Texts) → IsSound (from_both texts)
-  both_sound = first_sound d judges from_second second_sound file
+    pub both_sound : (texts : Texts) → IsSound (from_both texts)
+    both_sound = first_sound d judges from_second second_sound file
 
-  -- the first file ends it
-  pub both_stopped : {R : Type 0} (seen : R → V) (n : ℕ) (old new : Meaning) (answer : Answer) → ReadsFile {R = R} seen reads refuses file old new (Err answer) → IsCounted (desk_promise judges from_both old.texts) old new n n answer
-  both_stopped seen n old new answer read = first_stopped d judges from_second second_sound file seen n old new answer read
+    -- the first file ends it
+    pub both_stopped : {R : Type 0} (seen : R → V) (n : ℕ) (old new : Meaning) (answer : Answer)
+        → ReadsFile {R = R} seen reads refuses file old new (Err answer)
+        → IsCounted (desk_promise judges from_both old.texts) old new n n answer
+    both_stopped seen n old new answer read = first_stopped d judges from_second second_sound file seen n old new answer read
 
-  module _ {R S : Type 0} (seen : R → V) (seen_second : S → W) (old mid new : Meaning) (value : R) (read : ReadsFile {R = R} seen reads refuses file old mid (Ok value)) where
-    second_down : HasComeDown from_both judges (λ texts. from_second texts (seen value)) old mid
-    second_down = first_down d judges from_second second_sound file seen old mid value read
+    module _ {R S : Type 0} (seen : R → V) (seen_second : S → W) (old mid new : Meaning) (value : R) (read : ReadsFile {R = R} seen reads refuses file old mid (Ok value)) where
+      second_down : HasComeDown from_both judges (λ texts. from_second texts (seen value)) old mid
+      second_down = first_down d judges from_second second_sound file seen old mid value read
 
-    -- the second file ends it
-    pub second_stopped : (n : ℕ) (answer : Answer) → ReadsFile {R = S} seen_second (reads_second (seen value)) (refuses_second (seen value)) second mid new (Err answer) → IsCounted (desk_promise judges from_both old.texts) old new n n answer
-    second_stopped n answer other = last_stopped (l (seen value)) (means (seen value)) (denies (seen value)) second from_both both_sound old mid second_down seen_second n new answer other
+      -- the second file ends it
+      pub second_stopped : (n : ℕ) (answer : Answer) → ReadsFile {R = S} seen_second (reads_second (seen value))
+          (refuses_second (seen value)) second mid new (Err answer)
+          → IsCounted (desk_promise judges from_both old.texts) old new n n answer
+      second_stopped n answer other = last_stopped (l (seen value)) (means (seen value)) (denies (seen value)) second from_both both_sound old mid second_down seen_second n new answer other
 
-    -- both were judged
-    pub both_ended : (given : S) → ReadsFile {R = S} seen_second (reads_second (seen value)) (refuses_second (seen value)) second mid new (Ok given) → (m n : ℕ) (last : Meaning) (judged : Result (Bool × Vec ℕ) (Stop Refusal)) (answer : Answer)
-        → Comes (comes (seen value) (seen_second given)) judged → IfOk judged (λ t. ByVerdict t.0 (means (seen value) (seen_second given) t.1.items) (denies (seen value) (seen_second given))) → Ends judged new last answer → m ≤ n → counts (seen value) (seen_second given) m n
-        → IsCounted (desk_promise judges from_both old.texts) old last m n answer
-    both_ended given other = last_ended (l (seen value)) (means (seen value)) (denies (seen value)) second from_both both_sound old mid second_down seen_second new given other
+      -- both were judged
+      pub both_ended : (given : S) → ReadsFile {R = S} seen_second (reads_second (seen value))
+          (refuses_second (seen value)) second mid new (Ok given)
+          → (m n : ℕ) (last : Meaning) (judged : Result (Bool × Vec ℕ) (Stop Refusal)) (answer : Answer)
+          → Comes (comes (seen value) (seen_second given)) judged
+          → IfOk judged (λ t. ByVerdict t.0 (means (seen value) (seen_second given) t.1.items)
+          (denies (seen value) (seen_second given))) → Ends judged new last answer → m ≤ n
+          → counts (seen value) (seen_second given) m n
+          → IsCounted (desk_promise judges from_both old.texts) old last m n answer
+      both_ended given other = last_ended (l (seen value)) (means (seen value)) (denies (seen value)) second from_both both_sound old mid second_down seen_second new given other
 
 -- what a yes means, where nothing is said of another verdict
 pub of_yes : (verdict : Bool) (M : Type 0) → (verdict ≡ true → M) → ByVerdict verdict M (Unit {0})
@@ -552,7 +618,9 @@ text_so (Some text) so h = so text h
 
 -- where it means something, the file says a value, of which that is so
 module _ {V : Type 0} (reads : List ℕ → V → Type 0) (refuses : List ℕ → List ℕ → Type 0) (texts : Texts) (file : List ℕ) (next : V → Promise) (bytes : List ℕ) where
-  value_at : (r : Reached V) → Meets reads refuses (option_map (take LIMIT) (texts file)) r → (by_reached (texts file) next r).means bytes → (value : V) × (IsTextOf texts file (λ text. reads text value) × (next value).means bytes)
+  value_at : (r : Reached V) → Meets reads refuses (option_map (take LIMIT) (texts file)) r
+      → (by_reached (texts file) next r).means bytes → (value : V)
+      × (IsTextOf texts file (λ text. reads text value) × (next value).means bytes)
   value_at no_text met m = absurd m
   value_at (refused_with line) met m = absurd m
   value_at (has_said value) met m = (value, (met, m))
@@ -561,7 +629,9 @@ module _ {V : Type 0} (reads : List ℕ → V → Type 0) (refuses : List ℕ �
   value_said h = value_at h.0 h.1.0 h.1.1
 
 -- a yes means this, too, where it follows
-pub meant_as : {old new : Meaning} {m n : ℕ} {answer : Answer} (judges : Bool) (told : Texts → Promise) (says : Texts → List ℕ → Type 0) (t : Option Texts) → ((texts : Texts) (bytes : List ℕ) → (told texts).means bytes → says texts bytes)
+pub meant_as : {old new : Meaning} {m n : ℕ} {answer : Answer} (judges : Bool) (told : Texts → Promise)
+    (says : Texts → List ℕ → Type 0) (t : Option Texts) → ((texts : Texts) (bytes : List ℕ) → (told texts).means bytes
+    → says texts bytes)
     → IsCounted (desk_promise judges told t) old new m n answer → IsCounted (desk_promise judges (λ texts. saying (says texts) (told texts)) t) old new m n answer
 meant_as judges told says None so h = h
 meant_as judges told says (Some texts) so h =

@@ -3,9 +3,9 @@ use Rattle.std.specs.Prelude.{◌≡◌, ◌≢◌, ◌⊎◌, ◌<◌, ◌≤�
 use Rattle.std.specs.Global.{Vec}
 use Rattle.std.specs.List.{flat_map}
 use Rattle.std.specs.Io.KnownBytes.{Appends}
-use Rattle.desk.specs.Desk.{Meaning, OnlyOutput, Rose}
-use Rattle.texts.specs.declared.stop.Stop.{Stop}
-use Rattle.texts.specs.declared.stop.Stop.TheVariants.{Fault, Memory}
+use Rattle.text_base.specs.Desk.{Meaning, OnlyOutput, Rose}
+use Rattle.text_base.specs.declared.stop.Stop.{Stop}
+use Rattle.text_base.specs.declared.stop.Stop.TheVariants.{Fault, Memory}
 use Rattle.command_core.specs.declared.refused.Refusal.{Refusal}
 use Rattle.command_core.specs.Outcome.{Outcome, Done as IsDone, Status, Written, IsQuiet, told_line, verdict_status}
 use Rattle.command_core.specs.Promise.{Promise}

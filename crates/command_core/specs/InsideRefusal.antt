@@ -1,7 +1,7 @@
 -- What a call answers that may refuse the input.
 use Rattle.std.specs.Prelude.{List, ℕ, Result, Ok, Err}
-use Rattle.texts.specs.declared.stop.Stop.{Stop}
-use Rattle.texts.specs.declared.stop.Stop.TheVariants.{Fault, Memory}
+use Rattle.text_base.specs.declared.stop.Stop.{Stop}
+use Rattle.text_base.specs.declared.stop.Stop.TheVariants.{Fault, Memory}
 use Rattle.command_core.specs.declared.refused.Refusal.{Refusal}
 
 -- A call answers a value of which P holds, or a refusal of whose line Q holds; of want of memory

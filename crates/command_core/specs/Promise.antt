@@ -1,7 +1,7 @@
 -- What a command promises: what it comes to, and the headline over that.
 use Rattle.std.specs.Prelude.{◌≡◌, ◌⊎◌, ◌↔◌, ℕ, ◌≤◌, Bool, true, false, List, codes}
 use Rattle.std.specs.Io.KnownBytes.{Appends}
-use Rattle.desk.specs.Desk.{Meaning}
+use Rattle.text_base.specs.Desk.{Meaning}
 use Rattle.command_core.specs.Outcome.{Outcome, NoText, Refused, Done}
 use Rattle.command_core.specs.Transfer.{TellsFront}
 

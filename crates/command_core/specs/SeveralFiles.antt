@@ -31,12 +31,12 @@ use Rattle.std.specs.Global.{Vec}
 use Rattle.std.specs.List.{flat_map}
 use Rattle.std.specs.declared.option.Option.{Option}
 use Rattle.std.specs.declared.option.Option.TheVariants.{None, Some}
-use Rattle.desk.specs.Desk.{IsUnknown, Meaning, OnlyInput, Rose, Texts}
-use Rattle.texts.specs.Judged.{Rules}
-use Rattle.texts.specs.Reading.{HasFault}
-use Rattle.texts.specs.declared.fault.TextFault.{TextFault}
-use Rattle.texts.specs.declared.stop.Stop.{Stop}
-use Rattle.texts.specs.declared.stop.Stop.TheVariants.{Fault, Memory}
+use Rattle.text_base.specs.Desk.{IsUnknown, Meaning, OnlyInput, Rose, Texts}
+use Rattle.text_base.specs.Judged.{Rules}
+use Rattle.text_base.specs.Reading.{HasFault}
+use Rattle.text_base.specs.declared.fault.TextFault.{TextFault}
+use Rattle.text_base.specs.declared.stop.Stop.{Stop}
+use Rattle.text_base.specs.declared.stop.Stop.TheVariants.{Fault, Memory}
 use Rattle.command_core.specs.InsideRefusal.{Gives}
 use Rattle.command_core.specs.declared.refused.Refusal.{Refusal}
 use Rattle.command_core.specs.Outcome.{Outcome, Untold, NoText, Refused as IsRefusal, Done as IsDone}

@@ -5,8 +5,8 @@ use Rattle.std.proofs.Props.{props}
 use Rattle.std.proofs.lemmas.List.{append_cancel_left, append_cancel_right}
 use mathlib.Core.HLevel.{is_prop→PathP}
 use Rattle.std.specs.Fmt.{decimal}
-use Rattle.texts.specs.declared.fault.TextFault.{TextFault}
-use Rattle.fractions.specs.Rational.{ℚ}
+use Rattle.text_base.specs.declared.fault.TextFault.{TextFault}
+use Rattle.exact_numbers.specs.Rational.{ℚ}
 use Rattle.exact_numbers.specs.Written.{frac_text}
 
 -- a whole number, or the numerator, a slash and the denominator, in lowest terms

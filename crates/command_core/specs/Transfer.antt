@@ -3,7 +3,7 @@ use Rattle.std.specs.Prelude.{◌≡◌, ◌⊎◌, ℕ, ◌<◌, ◌≤◌, Lis
 use Rattle.std.specs.declared.option.Option.{Option}
 use Rattle.std.specs.declared.option.Option.TheVariants.{None, Some}
 use Rattle.std.specs.Io.KnownBytes.{Appends}
-use Rattle.desk.specs.Desk.{Texts, Rose}
+use Rattle.text_base.specs.Desk.{Texts, Rose}
 use Rattle.command_core.specs.declared.transfer.Unread.{Unread}
 use Rattle.command_core.specs.declared.transfer.Unread.TheVariants.{Fault, Memory}
 

@@ -1,8 +1,8 @@
 // What all commands share that read files: feeding a reader, and ending with what was judged.
 ghost use Rattle.std.specs.Prelude.{◌≡◌, [], IfOk};
 ghost use Rattle.std.specs.List.{flat_map};
-ghost use Rattle.desk.specs.Desk.{IsUnknown, OnlyInput};
-ghost use Rattle.texts.specs.Readers.{HasTaken, grammar_of};
+ghost use Rattle.text_base.specs.Desk.{IsUnknown, OnlyInput};
+ghost use Rattle.text_base.specs.Readers.{HasTaken, grammar_of};
 ghost use Rattle.command_core.specs.InsideAnswer.{Ends, EndsInPieces, EndsWriting, Missed};
 ghost use Rattle.command_core.specs.SeveralFiles.{Answered};
 ghost use Rattle.command_core.specs.Transfer.{HasRead, HasReadCause};
@@ -10,9 +10,8 @@ ghost use Rattle.command_core.specs.Transfer.{HasRead, HasReadCause};
 use crate::answer::Answer;
 use crate::refused::Refusal;
 use crate::transfer::{LIMIT, Unread, feed_text, write_all, write_pieces};
-use desk::Desk;
 use std::alloc::Global;
-use texts::{Grammar, Reader, Stop};
+use text_base::{Desk, Grammar, Reader, Stop};
 
 /// A reader by a grammar that has taken no lines, which was fed the named text.
 pub fn read<D: Desk, G: Grammar>(

@@ -2,13 +2,12 @@
 ghost use Rattle.std.specs.Prelude.{◌≡◌, ◌<◌, ◌≤◌, IfOk, OnOk, length, take};
 ghost use Rattle.std.specs.List.{flat_map};
 ghost use Rattle.std.specs.Io.KnownBytes.{ReadConsumes};
-ghost use Rattle.desk.specs.Desk.{HasCause, IsUnknown, OnlyInput, OnlyOutput, OnlyMessages};
-ghost use Rattle.texts.specs.Readers.{HasTaken, grammar_of};
+ghost use Rattle.text_base.specs.Desk.{HasCause, IsUnknown, OnlyInput, OnlyOutput, OnlyMessages};
+ghost use Rattle.text_base.specs.Readers.{HasTaken, grammar_of};
 ghost use Rattle.command_core.specs.Transfer.{AppendsAll, TellsFront, FeedsText, FeedsToLimit, HasReadCause};
 
-use desk::{Desk, Failed};
 use std::alloc::{AllocError, Global};
-use texts::{Grammar, Reader};
+use text_base::{Desk, Failed, Grammar, Reader};
 
 /// A text is read up to this many bytes.
 pub const LIMIT: usize = 0x8000_0001;

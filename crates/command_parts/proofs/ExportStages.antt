@@ -4,27 +4,29 @@ use Rattle.std.specs.Prelude.{All, IsTrue, option_map}
 use Rattle.std.proofs.lemmas.Bool.{cases_lt, cases_order}
 use Rattle.std.proofs.lemmas.List.{get_or_past}
 use Rattle.std.proofs.lemmas.List.Elements.{All-nil, All-cons, All-head, All-tail}
-use Rattle.fractions.specs.Fits.{fits, sum_fits}
-use Rattle.fractions.specs.Rational.{ℚ, neg_ℚ, whole, ◌-ℚ◌, ◌*ℚ◌}
-use Rattle.program_meaning.specs.Linear.{Row, Linear, variable_count, no_row, row_at}
+use Rattle.exact_numbers.specs.Fits.{fits, sum_fits}
+use Rattle.exact_numbers.specs.Rational.{ℚ, neg_ℚ, whole, ◌-ℚ◌, ◌*ℚ◌}
+use Rattle.linear_program.specs.Linear.{Row, Linear, variable_count, no_row, row_at}
 use Rattle.exact_numbers.specs.Values.{FitsDec, fits_dec}
 use Rattle.exact_numbers.proofs.Spelling.{fits_dec_in, fits_dec_out}
-use Rattle.scaled_program.specs.Fits.{ScaledFits, SideFits, RangeFits, IfSide, IfBoth, RowFits, ExportFits, IsRowTooWide, IsDecimal, ObjectiveFits, factor_of_row, factor_of_objective, IsScaledProgramOf}
+use Rattle.scaled_program.specs.Fits.{ScaledFits, SideFits, RangeFits, IfSide, IfBoth, RowFits, ExportFits}
+use Rattle.scaled_program.specs.Fits.{IsRowTooWide, IsDecimal, ObjectiveFits, factor_of_row, factor_of_objective}
+use Rattle.scaled_program.specs.Fits.{IsScaledProgramOf}
 use Rattle.scaled_program.specs.Factor.{coefficients_below, objective_numbers}
 use Rattle.scaled_program.specs.Program.{ScaledProgram, scaled_by, scaled_and_tied, nonzero, scaled_side, is_exported}
-use Rattle.scaling.specs.Scaling.{HasNoScaleFault, HasScaleFault}
-use Rattle.scaling.specs.declared.scale_fault.ScaleFault.{ScaleFault}
-use Rattle.scaling.specs.declared.scale_fault.ScaleFault.TheVariants.{RowTooWide, ObjectiveTooWide}
+use Rattle.row_scaling.specs.Scaling.{HasNoScaleFault, HasScaleFault}
+use Rattle.row_scaling.specs.declared.scale_fault.ScaleFault.{ScaleFault}
+use Rattle.row_scaling.specs.declared.scale_fault.ScaleFault.TheVariants.{RowTooWide, ObjectiveTooWide}
 use Rattle.std.proofs.lemmas.Option.{same_Some}
-use Rattle.file_meaning.specs.FoldFaults.{fold_fault, FoldFault as FileFault}
-use Rattle.file_meaning.specs.LinearFile.{linear_of}
+use Rattle.nl_model.specs.FoldFaults.{fold_fault, FoldFault as FileFault}
+use Rattle.nl_model.specs.LinearFile.{linear_of}
 use Rattle.linear_fold.specs.FoldedFaults.{first_fold_fault, named_fault}
 use Rattle.linear_program.specs.Programs.{LinearValue, linear_value}
 use Rattle.linear_fold.specs.declared.fold_fault.FoldFault.{FoldFault}
 use Rattle.nl_model.specs.File.{File}
 use Rattle.nl_segments.specs.Grammar.{NlValue}
-use Rattle.scaling.specs.Exported.{scaled_as}
-use Rattle.scaling.specs.Scaled.{ScaledValue}
+use Rattle.row_scaling.specs.Exported.{scaled_as}
+use Rattle.row_scaling.specs.Scaled.{ScaledValue}
 use Rattle.command_parts.specs.NlTold.{fold_line, scale_line}
 use Rattle.command_parts.specs.Stages.{HasFolded, HasScaled, CanBeExported, CannotBeExported}
 
@@ -69,7 +71,9 @@ scaled_fits k x =
 
 side_fits : (k : ℕ) (constant s : ℚ) → IsDecided (SideFits k constant s)
 side_fits k constant s =
-    by_same (IsTrue (fits s) × (IsTrue (sum_fits s (neg_ℚ constant)) × ScaledFits k (s -ℚ constant))) (SideFits k constant s) (λ h. record { side = h.0; less = h.1.0; scaled = h.1.1 }) (λ h. (h.side, (h.less, h.scaled)))
+    by_same (IsTrue (fits s) × (IsTrue (sum_fits s (neg_ℚ constant)) × ScaledFits k (s -ℚ constant)))
+    (SideFits k constant s) (λ h. record { side = h.0; less = h.1.0; scaled = h.1.1 })
+    (λ h. (h.side, (h.less, h.scaled)))
     (both _ _ (is_true (fits s)) (both _ _ (is_true (sum_fits s (neg_ℚ constant))) (scaled_fits k (s -ℚ constant))))
 
 range_fits : (l u : ℚ) → IsDecided (RangeFits l u)
@@ -88,10 +92,17 @@ if_both P d (Some l) (Some u) = if_side (λ r. P l u) (λ r. d l u) (nonzero (u 
 
 row_fits : (n : ℕ) (r : Row) (k : ℕ) → IsDecided (RowFits n r k)
 row_fits n r k =
-    by_same ((k < 2 ^ 127) × (All (ScaledFits k) (coefficients_below r.body.coefficient n) × (IfSide (SideFits k r.body.constant) r.side.lower × (IfSide (SideFits k r.body.constant) r.side.upper × IfBoth RangeFits (scaled_side (whole (pos k)) r.body.constant r.side.lower) (scaled_side (whole (pos k)) r.body.constant r.side.upper))))) (RowFits n r k)
+    by_same ((k < 2 ^ 127) × (All (ScaledFits k) (coefficients_below r.body.coefficient n)
+    × (IfSide (SideFits k r.body.constant) r.side.lower
+    × (IfSide (SideFits k r.body.constant) r.side.upper
+    × IfBoth RangeFits (scaled_side (whole (pos k)) r.body.constant r.side.lower)
+    (scaled_side (whole (pos k)) r.body.constant r.side.upper))))) (RowFits n r k)
     (λ h. record { factor = h.0; coefficients = h.1.0; lower = h.1.1.0; upper = h.1.1.1.0; range = h.1.1.1.1 })
     (λ h. (h.factor, (h.coefficients, (h.lower, (h.upper, h.range)))))
-    (both _ _ (below k (2 ^ 127)) (both _ _ (all (ScaledFits k) (scaled_fits k) (coefficients_below r.body.coefficient n)) (both _ _ (if_side (SideFits k r.body.constant) (side_fits k r.body.constant) r.side.lower) (both _ _ (if_side (SideFits k r.body.constant) (side_fits k r.body.constant) r.side.upper)
+    (both _ _ (below k (2 ^ 127)) (both _ _ (all (ScaledFits k) (scaled_fits k)
+    (coefficients_below r.body.coefficient n)) (both _ _
+    (if_side (SideFits k r.body.constant) (side_fits k r.body.constant) r.side.lower)
+    (both _ _ (if_side (SideFits k r.body.constant) (side_fits k r.body.constant) r.side.upper)
     (if_both RangeFits range_fits (scaled_side (whole (pos k)) r.body.constant r.side.lower) (scaled_side (whole (pos k)) r.body.constant r.side.upper))))))
 
 where_exported : (b : Bool) (P : Type 0) → IsDecided P → IsDecided (IsTrue b → P)
@@ -132,7 +143,9 @@ decimal_decided f = all FitsDec dec (objective_numbers (variable_count f) f.obje
 
 objective_fits : (f : Linear) → IsDecided (ObjectiveFits f)
 objective_fits f =
-    by_same ((factor_of_objective f < 2 ^ 127) × All (ScaledFits (factor_of_objective f)) (objective_numbers (variable_count f) f.objective)) (ObjectiveFits f) (λ h. record { factor = h.0; parts = h.1 }) (λ h. (h.factor, h.parts))
+    by_same ((factor_of_objective f < 2 ^ 127) × All (ScaledFits (factor_of_objective f))
+    (objective_numbers (variable_count f) f.objective)) (ObjectiveFits f)
+    (λ h. record { factor = h.0; parts = h.1 }) (λ h. (h.factor, h.parts))
     (both _ _ (below (factor_of_objective f) (2 ^ 127)) (all (ScaledFits (factor_of_objective f)) (scaled_fits (factor_of_objective f)) (objective_numbers (variable_count f) f.objective)))
 
 by_fits : (f : Linear) → ((i : ℕ) → ExportFits f i) → IsDecided (IsDecimal f) → IsDecided (ObjectiveFits f) → HasNoScaleFault f ⊎ ((fault : ScaleFault) × HasScaleFault f fault)

@@ -1,23 +1,27 @@
 -- What is told of a text that is refused names one of its lines: the first fault of folding it stands at a place of the
 -- file, and each line that tells a refusal begins with `refused `, and ends its line.
-use Rattle.std.proofs.Common.{[], ◌≡◌, ℕ, zero, suc, ◌+◌, ◌≤◌, Bool, true, false, not, ◌||◌, ◌==◌, IsTrue, List, ◌∷◌, ◌++◌, length, refl, sym, subst, subst₂, arith, Option, Some, None, is_some, nat_lt, pos, option_map, if◌then◌else◌, ◌∙◌, ◌<◌, ap, inl, inr, append_assoc, codes}
+use Rattle.std.proofs.Common.{[], ◌≡◌, ℕ, zero, suc, ◌+◌, ◌≤◌, Bool, true, false, not, ◌||◌, ◌==◌, IsTrue, List, ◌∷◌}
+use Rattle.std.proofs.Common.{◌++◌, length, refl, sym, subst, subst₂, arith, Option, Some, None, is_some, nat_lt, pos}
+use Rattle.std.proofs.Common.{option_map, if◌then◌else◌, ◌∙◌, ◌<◌, ap, inl, inr, append_assoc, codes}
 use Rattle.std.specs.Option.{option_or}
 use Rattle.std.proofs.lemmas.Bool.{ltb-false, ltb-true}
 use Rattle.std.proofs.lemmas.Option.{same_Some}
-use Rattle.fractions.specs.Rational.{decimal_value}
-use Rattle.nl_meaning.specs.declared.Fault.{Fault}
-use Rattle.program_meaning.specs.Lines.{constant_line, line_by}
-use Rattle.nl_meaning.specs.Faults.{expression_fault}
-use Rattle.nl_meaning.specs.Trees.{Expression, Tree, expression_given}
-use Rattle.nl_meaning.proofs.Linear.{terms_added}
-use Rattle.program_meaning.proofs.LineLemmas.{same_coef}
+use Rattle.exact_numbers.specs.Rational.{decimal_value}
+use Rattle.nl_model.specs.declared.fault.Fault.{Fault}
+use Rattle.linear_program.specs.Lines.{constant_line, line_by}
+use Rattle.nl_model.specs.Faults.{expression_fault}
+use Rattle.nl_model.specs.Trees.{Expression, Tree, expression_given}
+use Rattle.nl_model.proofs.Linear.{terms_added}
+use Rattle.linear_program.proofs.LineLemmas.{same_coef}
 use Rattle.nl_model.specs.declared.at.Owner.{Owner}
 use Rattle.nl_model.specs.declared.at.Owner.TheVariants.{Con, Def, Obj}
 use Rattle.nl_model.specs.File.{File, Term}
 use Rattle.nl_model.specs.FilePlaces.{terms_at, tree_at}
-use Rattle.file_meaning.specs.Expressions.{linear_terms, tree_or_zero}
-use Rattle.file_meaning.specs.FoldFaults.{FoldFault as FileFault, Owned, at_place, coefficient_count, fold_fault, fold_too_large, has_objective, head_fault, most_coefficients, no_such_objective, owned_line, owner_fault, owners_fault, owners_of}
-use Rattle.program_meaning.specs.Elements.{elements_from}
+use Rattle.nl_model.specs.Expressions.{linear_terms, tree_or_zero}
+use Rattle.nl_model.specs.FoldFaults.{FoldFault as FileFault, Owned, at_place, coefficient_count, fold_fault}
+use Rattle.nl_model.specs.FoldFaults.{fold_too_large, has_objective, head_fault, most_coefficients, no_such_objective}
+use Rattle.nl_model.specs.FoldFaults.{owned_line, owner_fault, owners_fault, owners_of}
+use Rattle.linear_program.specs.Elements.{elements_from}
 use Rattle.linear_fold.specs.declared.fold_fault.FoldFault.{FoldFault}
 use Rattle.linear_fold.specs.FoldedFaults.{HasFaultPlace, first_fold_fault, named_fault}
 use Rattle.linear_fold.specs.InsideOwnerFolds.{definitions_before, expression_at, known_by, owned_at}
@@ -26,10 +30,10 @@ use Rattle.linear_fold.proofs.CountLemmas.{count_zero}
 use Rattle.linear_fold.proofs.Folding.{constant_lined}
 use Rattle.linear_fold.proofs.OwnerLemmas.{expression_among, owner_place}
 use Rattle.std.specs.Prelude.{IsSomeAnd}
-use Rattle.texts.specs.Judged.{Rules}
-use Rattle.texts.specs.Reading.{HasFault, last_of, lines_of}
-use Rattle.texts.specs.declared.fault.TextFault.{TextFault}
-use Rattle.texts.proofs.JudgedLemmas.{fault_line}
+use Rattle.text_base.specs.Judged.{Rules}
+use Rattle.text_base.specs.Reading.{HasFault, last_of, lines_of}
+use Rattle.text_base.specs.declared.fault.TextFault.{TextFault}
+use Rattle.text_base.proofs.JudgedLemmas.{fault_line}
 use Rattle.answer_file.specs.Grammar.{answer_rules}
 use Rattle.answer_file.specs.Names.{Setting as AnswerSetting}
 use Rattle.certificate_text.specs.Grammar.{certificate_rules}
@@ -37,11 +41,11 @@ use Rattle.certificates.specs.Setting.{Setting as CertificateSetting}
 use Rattle.fixed_mps.specs.Grammar.{fixed_rules}
 use Rattle.mps_reader.specs.Grammar.{mps_rules}
 use Rattle.name_files.specs.Names.{Counts, name_rules}
-use Rattle.proof_text.specs.Grammar.{proof_rules}
+use Rattle.branch_proof.specs.Grammar.{proof_rules}
 use Rattle.nl_model.specs.declared.at.At.{At}
 use Rattle.linear_fold.specs.declared.fold_fault.FoldFault.TheVariants.{Nonlinear, DivideByZero, TooWide, RefusedPower, FoldTooLarge, NoSuchObjective}
-use Rattle.scaling.specs.declared.scale_fault.ScaleFault.{ScaleFault}
-use Rattle.scaling.specs.declared.scale_fault.ScaleFault.TheVariants.{RowTooWide, ObjectiveTooWide}
+use Rattle.row_scaling.specs.declared.scale_fault.ScaleFault.{ScaleFault}
+use Rattle.row_scaling.specs.declared.scale_fault.ScaleFault.TheVariants.{RowTooWide, ObjectiveTooWide}
 use Rattle.nl_segments.specs.Grammar.{NlValue}
 use Rattle.nl_segments.specs.Reader.{IsNl}
 use Rattle.nl_lines.specs.Saying.{PlaceLines, place_line}
@@ -53,7 +57,7 @@ use Rattle.command_parts.specs.NameLists.{IsListRefused}
 use Rattle.name_files.specs.Reasons.{name_reason_text}
 use Rattle.command_parts.specs.NlTold.{HasFaultLine, HasLineUpTo, fold_line, placed_line, scale_line}
 use Rattle.nl_lines.specs.Reasons.{opcode_text, nl_reason_text}
-use Rattle.proof_text.specs.Reasons.{proof_reason_text}
+use Rattle.branch_proof.specs.Reasons.{proof_reason_text}
 use Rattle.command_parts.specs.Refusal.{HasTextRefusal, IsAnswerRefused, IsCertificateRefused, IsFixedRefused, IsMpsRefused, IsProofRefused, IsSolRefused}
 use Rattle.sol_files.specs.Reasons.{sol_reason_text}
 use Rattle.command_core.specs.Told.{refusal, refused_at}
@@ -139,7 +143,8 @@ owners_placed f (w ∷ os) before x h few e = by (owner_fault n total w) refl e 
     total : ℕ
     total = before + coefficient_count n (owned_line w)
 
-    by : (r : Option FileFault) → owner_fault n total w ≡ r → option_or r (owners_fault n total os) ≡ Some x → (total ≤ most_coefficients → owners_fault n total os ≡ Some x → IsPlaced f x) → IsPlaced f x
+    by : (r : Option FileFault) → owner_fault n total w ≡ r → option_or r (owners_fault n total os) ≡ Some x
+        → (total ≤ most_coefficients → owners_fault n total os ≡ Some x → IsPlaced f x) → IsPlaced f x
     by None q e rest = rest (few_after w.owner (option_map (at_place w.owner) (expression_fault w.known n w.expression)) total q) e
     by (Some y) q e rest =
         subst (IsPlaced f) (same_Some y x e)

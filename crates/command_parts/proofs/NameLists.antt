@@ -2,9 +2,9 @@
 use Rattle.std.proofs.Common.{◌≡◌, ◌∙◌, inl, inr, ℕ, ◌+◌, ◌==◌, ◌≤◌, Bool, true, false, List, length, Option, Some, None, Result, Ok, Err, refl, sym, ap, arith, eqb-true, length-take-le}
 use Rattle.std.specs.Prelude.{IfOk, if◌then◌else◌}
 use Rattle.std.proofs.lemmas.Bool.{or_cases}
-use Rattle.desk.specs.Desk.{Meaning, Texts}
-use Rattle.texts.specs.Reading.{lines_of}
-use Rattle.texts.proofs.ReadingLemmas.{text_ends}
+use Rattle.text_base.specs.Desk.{Meaning, Texts}
+use Rattle.text_base.specs.Reading.{lines_of}
+use Rattle.text_base.proofs.ReadingLemmas.{text_ends}
 use Rattle.name_files.specs.Names.{Counts, SaysNames, end_reason, is_full, name_rules, names_of, used_names}
 use Rattle.name_files.specs.declared.fault.NameReason.{NameReason}
 use Rattle.name_files.specs.declared.fault.NameReason.TheVariants.{OtherCount}
@@ -48,7 +48,9 @@ listed_count counts text names h =
     ap length h.said ∙ length-take-le counts.used (names_of (lines_of text)) (full_so counts (lines_of text) (text_ends (name_rules counts) text h.clean))
 
 -- what was read is a list of so many names
-pub count_so : (counts : Counts) (file : ℕ) (name : List ℕ) (old new : Meaning) (r : Result (List (List ℕ)) Answer) → ReadsFile itself (AreListed counts) (IsListRefused counts file) name old new r → IfOk r (λ names. length names ≡ counts.used)
+pub count_so : (counts : Counts) (file : ℕ) (name : List ℕ) (old new : Meaning) (r : Result (List (List ℕ)) Answer)
+    → ReadsFile itself (AreListed counts) (IsListRefused counts file) name old new r
+    → IfOk r (λ names. length names ≡ counts.used)
 count_so counts file name old new (Ok names) h = listed_count counts h.judged.bytes names h.judged.says
 count_so counts file name old new (Err answer) h = tt
 
@@ -61,7 +63,9 @@ columns_of f counts same = ap (λ (c : FileCounts). record { used = c.n_var; fur
 
 -- ---- a command of a file and its lists of names
 
-module _ (judges : Bool) (number : ℕ) (file rows columns : List ℕ) (next : NlValue → Texts → List (List ℕ) → List (List ℕ) → Promise) (sound : (nl : NlValue) (texts : Texts) (r c : List (List ℕ)) → IsSound (next nl texts r c)) where
+module _ (judges : Bool) (number : ℕ) (file rows columns : List ℕ)
+    (next : NlValue → Texts → List (List ℕ) → List (List ℕ) → Promise)
+    (sound : (nl : NlValue) (texts : Texts) (r c : List (List ℕ)) → IsSound (next nl texts r c)) where
   abbrev after_rows : NlValue → Texts → List (List ℕ) → Promise
   after_rows nl texts r = after_file (AreListed (column_counts nl.file)) (IsListRefused (column_counts nl.file) (number + 1)) texts columns (next nl texts r)
 
@@ -71,7 +75,8 @@ module _ (judges : Bool) (number : ℕ) (file rows columns : List ℕ) (next : N
   after_nl_sound : (texts : Texts) (nl : NlValue) → IsSound (after_nl texts nl)
   after_nl_sound texts nl =
       sound_after (AreListed (row_counts nl.file)) (IsListRefused (row_counts nl.file) number) (list_read (row_counts nl.file) number) texts rows (after_rows nl texts) (λ r.
-      sound_after (AreListed (column_counts nl.file)) (IsListRefused (column_counts nl.file) (number + 1)) (list_read (column_counts nl.file) (number + 1)) texts columns (next nl texts r) (sound nl texts r))
+      sound_after (AreListed (column_counts nl.file)) (IsListRefused (column_counts nl.file) (number + 1))
+      (list_read (column_counts nl.file) (number + 1)) texts columns (next nl texts r) (sound nl texts r))
 
   abbrev pub listed : Texts → Promise
   listed texts = after_file IsNl HasTextRefusal texts file (after_nl texts)
@@ -92,17 +97,30 @@ module _ (judges : Bool) (number : ℕ) (file rows columns : List ℕ) (next : N
       nl_down = first_down nl_read judges after_nl after_nl_sound file seen old mid value read
 
       -- the list of rows ends it
-      pub rows_stopped : (n : ℕ) (new : Meaning) (answer : Answer) → ReadsFile {R = List (List ℕ)} itself (AreListed (row_counts f)) (IsListRefused (row_counts f) number) rows mid new (Err answer) → IsCounted (desk_promise judges listed old.texts) old new n n answer
-      rows_stopped n new answer other = stopped listed judges listed_sound itself (AreListed (row_counts f)) (IsListRefused (row_counts f) number) rows (after_rows (seen value)) old mid new nl_down n answer other
+      pub rows_stopped : (n : ℕ) (new : Meaning) (answer : Answer)
+          → ReadsFile {R = List (List ℕ)} itself (AreListed (row_counts f)) (IsListRefused (row_counts f) number) rows mid
+          new (Err answer) → IsCounted (desk_promise judges listed old.texts) old new n n answer
+      rows_stopped n new answer other = stopped listed judges listed_sound itself (AreListed (row_counts f))
+          (IsListRefused (row_counts f) number) rows (after_rows (seen value)) old mid new nl_down n answer other
 
       module _ (after : Meaning) (r : List (List ℕ)) (named : ReadsFile {R = List (List ℕ)} itself (AreListed (row_counts f)) (IsListRefused (row_counts f) number) rows mid after (Ok r)) where
         pub rows_down : HasComeDown listed judges (λ texts. after_rows (seen value) texts r) old after
         rows_down = further listed judges itself (AreListed (row_counts f)) (IsListRefused (row_counts f) number) rows (after_rows (seen value)) old mid after nl_down r named
 
         -- the list of columns ends it
-        pub columns_stopped : (n : ℕ) (new : Meaning) (answer : Answer) → ReadsFile {R = List (List ℕ)} itself (AreListed (column_counts f)) (IsListRefused (column_counts f) (number + 1)) columns after new (Err answer) → IsCounted (desk_promise judges listed old.texts) old new n n answer
+        pub columns_stopped : (n : ℕ) (new : Meaning) (answer : Answer)
+            → ReadsFile {R = List (List ℕ)} itself (AreListed (column_counts f))
+            (IsListRefused (column_counts f) (number + 1)) columns after new (Err answer)
+            → IsCounted (desk_promise judges listed old.texts) old new n n answer
         columns_stopped n new answer other =
-            stopped listed judges listed_sound itself (AreListed (column_counts f)) (IsListRefused (column_counts f) (number + 1)) columns (λ texts c. next (seen value) texts r c) old after new rows_down n answer other
+            stopped listed judges listed_sound itself (AreListed (column_counts f))
+            (IsListRefused (column_counts f) (number + 1)) columns (λ texts c. next (seen value) texts r c) old after
+            new rows_down n answer other
 
-        pub columns_down : (new : Meaning) (c : List (List ℕ)) → ReadsFile {R = List (List ℕ)} itself (AreListed (column_counts f)) (IsListRefused (column_counts f) (number + 1)) columns after new (Ok c) → HasComeDown listed judges (λ texts. next (seen value) texts r c) old new
-        columns_down new c other = further listed judges itself (AreListed (column_counts f)) (IsListRefused (column_counts f) (number + 1)) columns (λ texts c. next (seen value) texts r c) old after new rows_down c other
+        pub columns_down : (new : Meaning) (c : List (List ℕ))
+            → ReadsFile {R = List (List ℕ)} itself (AreListed (column_counts f))
+            (IsListRefused (column_counts f) (number + 1)) columns after new (Ok c)
+            → HasComeDown listed judges (λ texts. next (seen value) texts r c) old new
+        columns_down new c other = further listed judges itself (AreListed (column_counts f))
+            (IsListRefused (column_counts f) (number + 1)) columns (λ texts c. next (seen value) texts r c) old after new
+            rows_down c other

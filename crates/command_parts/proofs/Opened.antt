@@ -1,8 +1,8 @@
 -- What an opened file says, in a format's own words, and what is known of that.
 use Rattle.std.proofs.Common.{◌≡◌, ◌∙◌, ℕ, List, Result, Ok, Err, refl, ap₂}
 use Rattle.std.specs.Prelude.{IfOk, MatchResult}
-use Rattle.desk.specs.Desk.{Meaning}
-use Rattle.texts.specs.Reading.{IsRead}
+use Rattle.text_base.specs.Desk.{Meaning}
+use Rattle.text_base.specs.Reading.{IsRead}
 use Rattle.nl_segments.specs.Grammar.{SaysFile, nl_rules}
 use Rattle.nl_segments.specs.Reader.{HasLines, IsNl, fault_of, value_of}
 use Rattle.nl_segments.specs.declared.nl_read.NlRead.{NlRead}
@@ -13,7 +13,7 @@ use Rattle.nl_model.specs.declared.header_counts.Counts.{Counts}
 use Rattle.nl_model.specs.File.{File}
 use Rattle.nl_model.specs.Kinds.{kinds_in}
 use Rattle.linear_program.specs.declared.kind.Kind.{Kind}
-use Rattle.file_certificates.specs.Setting.{setting_of}
+use Rattle.problems.specs.NlSetting.{setting_of}
 use Rattle.certificates.specs.Certificates.{CertificateValue}
 use Rattle.certificates.specs.Setting.{IsCertificateFor, Setting}
 use Rattle.certificate_text.specs.Reader.{IsCertificateText}

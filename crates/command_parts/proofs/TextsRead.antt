@@ -3,9 +3,9 @@ use Rattle.std.proofs.Common.{◌≡◌, inl, inr, ◌⊎◌, ℕ, List, refl, s
 use Rattle.std.specs.Prelude.{map}
 use Rattle.nl_segments.specs.Grammar.{NlValue, nl_rules, standing, said, counts_of}
 use Rattle.command_parts.specs.NlTold.{nl_line}
-use Rattle.texts.specs.Judged.{HasOneOutcome, IsClean}
-use Rattle.texts.specs.Reading.{lines_of, last_of}
-use Rattle.texts.proofs.JudgedLemmas.{one_outcome}
+use Rattle.text_base.specs.Judged.{HasOneOutcome, IsClean}
+use Rattle.text_base.specs.Reading.{lines_of, last_of}
+use Rattle.text_base.proofs.JudgedLemmas.{one_outcome}
 use Rattle.nl_lines.specs.Saying.{place_lines}
 use Rattle.nl_model.specs.Draft.{file_of}
 use Rattle.nl_segments.specs.Reader.{IsNl, HasNlFault, fault_of}
@@ -26,10 +26,10 @@ use Rattle.answer_file.specs.Grammar.{SaysAnswer, answer_of, answer_rules, stand
 use Rattle.answer_file.specs.Names.{Setting}
 use Rattle.answer_file.specs.Reading.{IsAnswer}
 use Rattle.answer_file.specs.Reasons.{answer_reason_text}
-use Rattle.proof_text.specs.Reader.{HasProofFault, IsProofText}
+use Rattle.branch_proof.specs.Reader.{HasProofFault, IsProofText}
 use Rattle.certificates.specs.Setting.{Setting as CertificateSetting}
-use Rattle.proof_text.proofs.ReadingLemmas.{one_reading as one_proof}
-use Rattle.proof_text.specs.Reasons.{proof_reason_text}
+use Rattle.branch_proof.proofs.ReadingLemmas.{one_reading as one_proof}
+use Rattle.branch_proof.specs.Reasons.{proof_reason_text}
 use Rattle.certificate_text.specs.Reader.{HasCertificateFault, IsCertificateText}
 use Rattle.certificate_text.proofs.ReadingLemmas.{one_reading as one_certificate}
 use Rattle.certificate_text.specs.Reasons.{certificate_reason_text}
@@ -99,10 +99,14 @@ answer_read s = read_by (answer_rules s) (SaysAnswer s) (fault_line answer_reaso
 pub proof_read : (s : CertificateSetting) (file : ℕ) → AreRead (IsProofText s) (IsProofRefused s file)
 proof_read s file =
     read_so (IsProofText s) (HasProofFault s) (fault_line proof_reason_text file)
-    (λ text. (one_proof s text).one_value) (λ text a b h claimed. ap (fault_line proof_reason_text file) ((one_proof s text).one_fault a b h claimed)) (λ text. (one_proof s text).some) (λ text. (one_proof s text).not_both)
+    (λ text. (one_proof s text).one_value) (λ text a b h claimed. ap (fault_line proof_reason_text file)
+    ((one_proof s text).one_fault a b h claimed)) (λ text. (one_proof s text).some)
+    (λ text. (one_proof s text).not_both)
 
 -- each text says one certificate, or is refused with one line
 pub certificate_read : (s : CertificateSetting) (file : ℕ) → AreRead (IsCertificateText s) (IsCertificateRefused s file)
 certificate_read s file =
     read_so (IsCertificateText s) (HasCertificateFault s) (fault_line certificate_reason_text file)
-    (λ text. (one_certificate s text).one_value) (λ text a b h k. ap (fault_line certificate_reason_text file) ((one_certificate s text).one_fault a b h k)) (λ text. (one_certificate s text).some) (λ text. (one_certificate s text).not_both)
+    (λ text. (one_certificate s text).one_value) (λ text a b h k. ap (fault_line certificate_reason_text file)
+    ((one_certificate s text).one_fault a b h k)) (λ text. (one_certificate s text).some)
+    (λ text. (one_certificate s text).not_both)

@@ -2,9 +2,9 @@
 use Rattle.std.specs.Prelude.{◌≡◌, ℕ, Bool, true, false, nat_lt, if◌then◌else◌, List, [], ◌++◌, codes}
 use Rattle.std.specs.Option.{option_map_or}
 use Rattle.std.specs.Fmt.{decimal}
-use Rattle.fractions.specs.Fits.{fits}
-use Rattle.duality.specs.Certificate.{ClaimOutcome, holds, fails}
-use Rattle.duality.specs.Told.{Told, optimal, within, bound, feasible, infeasible, unbounded}
+use Rattle.exact_numbers.specs.Fits.{fits}
+use Rattle.certificates.specs.Certificate.{ClaimOutcome, holds, fails}
+use Rattle.certificates.specs.ToldMeaning.{Told, optimal, within, bound, feasible, infeasible, unbounded}
 use Rattle.linear_program.specs.Numbers.{number_value}
 use Rattle.certificates.specs.Certificates.{claim_objective}
 use Rattle.certificates.specs.Told.{told_claim}

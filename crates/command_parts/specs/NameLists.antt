@@ -1,8 +1,8 @@
 -- Lists of names as files of a command: which of them a file's rows and columns take, and why a
 -- list is refused.
 use Rattle.std.specs.Prelude.{ℕ, ◌+◌, List}
-use Rattle.desk.specs.Desk.{Texts}
-use Rattle.texts.specs.Reading.{HasFault, IsRead}
+use Rattle.text_base.specs.Desk.{Texts}
+use Rattle.text_base.specs.Reading.{HasFault, IsRead}
 use Rattle.name_files.specs.Names.{Counts, SaysNames, name_rules}
 use Rattle.nl_model.specs.File.{File}
 use Rattle.name_files.specs.Reasons.{name_reason_text}

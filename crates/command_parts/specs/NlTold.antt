@@ -6,11 +6,11 @@ use Rattle.nl_lines.specs.declared.fault.NlFault.{NlFault}
 use Rattle.nl_lines.specs.Saying.{PlaceLines, place_line}
 use Rattle.linear_fold.specs.declared.fold_fault.FoldFault.{FoldFault}
 use Rattle.linear_fold.specs.declared.fold_fault.FoldFault.TheVariants.{Nonlinear, DivideByZero, TooWide, RefusedPower, FoldTooLarge, NoSuchObjective}
-use Rattle.scaling.specs.declared.scale_fault.ScaleFault.{ScaleFault}
-use Rattle.scaling.specs.declared.scale_fault.ScaleFault.TheVariants.{RowTooWide, ObjectiveTooWide}
+use Rattle.row_scaling.specs.declared.scale_fault.ScaleFault.{ScaleFault}
+use Rattle.row_scaling.specs.declared.scale_fault.ScaleFault.TheVariants.{RowTooWide, ObjectiveTooWide}
 use Rattle.nl_lines.specs.Reasons.{opcode_text, nl_reason_text}
 use Rattle.linear_fold.specs.Reasons.{fold_fault_text}
-use Rattle.scaling.specs.Reasons.{scale_fault_text as scale_text}
+use Rattle.row_scaling.specs.Reasons.{scale_fault_text as scale_text}
 use Rattle.command_core.specs.Told.{refused_at, refusal}
 
 -- the line of a fault of an .nl text

@@ -1,6 +1,6 @@
 -- The lines of verdicts on proofs.
 use Rattle.std.specs.Prelude.{ℕ, List, ◌++◌, codes, Option, Some, None}
-use Rattle.duality.specs.Branch.{LeafFault}
+use Rattle.certificates.specs.Branch.{LeafFault}
 use Rattle.certificate_judge.specs.Reasons.{leaf_fault_text}
 
 -- the line of a verdict: the first leaf that does not close, or none

@@ -1,6 +1,6 @@
 -- Why a text is refused: its first fault, and the line that tells it.
 use Rattle.std.specs.Prelude.{ℕ, List}
-use Rattle.texts.specs.Reading.{HasFault}
+use Rattle.text_base.specs.Reading.{HasFault}
 use Rattle.answer_file.specs.Grammar.{answer_rules}
 use Rattle.answer_file.specs.Names.{Setting as AnswerSetting}
 use Rattle.certificate_text.specs.Reader.{HasCertificateFault}
@@ -8,14 +8,14 @@ use Rattle.certificates.specs.Setting.{Setting}
 use Rattle.fixed_mps.specs.Reader.{HasFixedFault}
 use Rattle.mps_reader.specs.Reader.{HasMpsFault}
 use Rattle.nl_segments.specs.Reader.{HasNlFault}
-use Rattle.proof_text.specs.Reader.{HasProofFault}
+use Rattle.branch_proof.specs.Reader.{HasProofFault}
 use Rattle.sol_files.specs.Reader.{HasSolFault}
 use Rattle.answer_file.specs.Reasons.{answer_reason_text}
 use Rattle.command_core.specs.Told.{fault_line}
 use Rattle.certificate_text.specs.Reasons.{certificate_reason_text}
 use Rattle.mps_reader.specs.Reasons.{mps_reason_text}
 use Rattle.command_parts.specs.NlTold.{nl_line}
-use Rattle.proof_text.specs.Reasons.{proof_reason_text}
+use Rattle.branch_proof.specs.Reasons.{proof_reason_text}
 use Rattle.command_parts.specs.SolTold.{sol_line}
 use Rattle.command_core.specs.Told.{TellsFault}
 

@@ -1,14 +1,14 @@
 -- What the stages of an export answer.
 use Rattle.std.specs.Prelude.{◌≡◌, ◌⊎◌, ℕ, List, if◌then◌else◌, Result, Some, None}
-use Rattle.program_meaning.specs.Linear.{Linear}
-use Rattle.texts.specs.declared.stop.Stop.{Stop}
-use Rattle.file_meaning.specs.FoldFaults.{fold_fault, has_objective}
-use Rattle.file_meaning.specs.LinearFile.{linear_of}
+use Rattle.linear_program.specs.Linear.{Linear}
+use Rattle.text_base.specs.declared.stop.Stop.{Stop}
+use Rattle.nl_model.specs.FoldFaults.{fold_fault, has_objective}
+use Rattle.nl_model.specs.LinearFile.{linear_of}
 use Rattle.linear_fold.specs.FoldedFaults.{first_fold_fault, step_bound}
 use Rattle.linear_program.specs.Programs.{LinearValue, linear_value}
 use Rattle.nl_segments.specs.Grammar.{NlValue}
-use Rattle.scaling.specs.Scaled.{ScaledValue}
-use Rattle.scaling.specs.Scaling.{HasNoScaleFault, HasScaleFault, IsScaledOf}
+use Rattle.row_scaling.specs.Scaled.{ScaledValue}
+use Rattle.row_scaling.specs.Scaling.{HasNoScaleFault, HasScaleFault, IsScaledOf}
 use Rattle.command_core.specs.InsideRefusal.{Gives}
 use Rattle.command_core.specs.declared.refused.Refusal.{Refusal}
 use Rattle.command_parts.specs.NlTold.{fold_line, scale_line}

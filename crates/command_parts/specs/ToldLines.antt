@@ -1,6 +1,6 @@
 -- Which lines are told of a text that is refused.
 use Rattle.std.specs.Prelude.{◌≡◌, ◌⊎◌, ℕ, List, codes}
-use Rattle.texts.specs.Reading.{IsLineOf}
+use Rattle.text_base.specs.Reading.{IsLineOf}
 use Rattle.command_core.specs.Told.{refusal}
 
 -- what is told of a text, which is this file of its command, names one of its lines, and why

@@ -1,9 +1,9 @@
 -- The lines of verdicts, and of faults of solutions that do not fit their file.
 use Rattle.std.specs.Prelude.{ℕ, ℤ, Bool, true, false, List, ◌++◌, codes}
 use Rattle.std.specs.Fmt.{signed_decimal}
-use Rattle.duality.specs.Verdict.{Verdict, yes, gap, refused}
-use Rattle.solution_fit.specs.declared.fitting.FitFault.{FitFault}
-use Rattle.solution_fit.specs.Fits.{fit_text}
+use Rattle.certificates.specs.Verdict.{Verdict, yes, gap, refused}
+use Rattle.certificate_check.specs.declared.fitting.FitFault.{FitFault}
+use Rattle.certificate_check.specs.Fits.{fit_text}
 use Rattle.exact_checks.specs.Reasons.{cause_text}
 use Rattle.command_core.specs.Told.{number_text}
 

@@ -11,10 +11,10 @@ ghost use Rattle.command_core.specs.SeveralFiles.{ReadsFile, itself};
 use crate::input::{Source, open};
 use answer_file::{Answer as Given, AnswerFault, AnswerGrammar, Scope};
 use command_core::{Answer, Refusal, refusal};
-use desk::Desk;
-use name_lists::NameList;
+use mps_model::NameList;
 use nl_model::NlFile;
 use std::alloc::Global;
+use text_base::Desk;
 
 impl Source for AnswerGrammar {
     ghost told = { λ _. fault_line answer_reason_text 2 };

@@ -1,9 +1,9 @@
 // Reading and judging the text of a certificate.
 ghost use Rattle.std.specs.Prelude.{◌≡◌, ◌≢◌, IfErr, IfOk};
 ghost use Rattle.certificates.specs.Setting.{IsCertificateFor};
-ghost use Rattle.file_certificates.specs.Files.{IsCertificateIn};
+ghost use Rattle.problems.specs.Files.{IsCertificateIn};
 ghost use Rattle.certificate_text.specs.Reader.{IsCertificateText};
-ghost use Rattle.file_certificates.specs.Setting.{setting_of};
+ghost use Rattle.problems.specs.NlSetting.{setting_of};
 ghost use Rattle.certificate_text.specs.Reasons.{certificate_reason_text};
 ghost use Rattle.command_core.specs.Told.{fault_line};
 ghost use Rattle.command_core.specs.InsideAnswer.{status_of};
@@ -14,10 +14,10 @@ use crate::input::{Source, open};
 use certificate_text::{CertificateFault, CertificateGrammar};
 use certificates::Certificate;
 use command_core::{Answer, Refusal, refusal};
-use desk::Desk;
 use linear_program::Kind;
 use nl_model::{NlFile, all_kinds};
 use std::alloc::Global;
+use text_base::Desk;
 
 impl Source for CertificateGrammar {
     ghost told = { fault_line certificate_reason_text };

@@ -1,9 +1,9 @@
 // The lines of verdicts on certificates.
 ghost use Rattle.std.specs.Prelude.{[], ◌≡◌, ◌++◌, codes, IfOk, OnOk, string_bytes, true};
 ghost use Rattle.std.specs.Option.{option_map_or};
-ghost use Rattle.fractions.specs.Fits.{fits};
-ghost use Rattle.duality.specs.Certificate.{holds};
-ghost use Rattle.duality.specs.Told.{within};
+ghost use Rattle.exact_numbers.specs.Fits.{fits};
+ghost use Rattle.certificates.specs.Certificate.{holds};
+ghost use Rattle.certificates.specs.ToldMeaning.{within};
 ghost use Rattle.exact_numbers.specs.Values.{frac_value};
 ghost use Rattle.linear_program.specs.Numbers.{number_value};
 ghost use Rattle.exact_checks.specs.Terms.{value_found};

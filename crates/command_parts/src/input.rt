@@ -1,17 +1,16 @@
 // Opening a text of any kind that commands read.
 ghost use Rattle.std.specs.Prelude.{◌≡◌, ◌≢◌, List, ℕ, [], Err, IfErr, IfSome, IsErrAnd};
-ghost use Rattle.texts.specs.Reading.{IsRead};
-ghost use Rattle.texts.specs.Readers.{HasTaken, grammar_of, stopped_by};
-ghost use Rattle.texts.specs.Stopped.{IsFaultAnd, MatchStop};
-ghost use Rattle.texts.specs.declared.fault.TextFault.{TextFault};
-ghost use Rattle.texts.specs.declared.stop.Stop.TheVariants.{Memory};
+ghost use Rattle.text_base.specs.Reading.{IsRead};
+ghost use Rattle.text_base.specs.Readers.{HasTaken, grammar_of, stopped_by};
+ghost use Rattle.text_base.specs.Stopped.{IsFaultAnd, MatchStop};
+ghost use Rattle.text_base.specs.declared.fault.TextFault.{TextFault};
+ghost use Rattle.text_base.specs.declared.stop.Stop.TheVariants.{Memory};
 ghost use Rattle.command_core.specs.InsideAnswer.{status_of};
 ghost use Rattle.command_core.specs.SeveralFiles.{IsRefusedBy, ReadsFile, Says, itself};
 
 use command_core::{Answer, Refusal, answered, missed, read};
-use desk::Desk;
 use std::alloc::Global;
-use texts::{Grammar, Reader, Stop, TextFault};
+use text_base::{Desk, Grammar, Reader, Stop, TextFault};
 
 /// A grammar of texts that commands read.
 pub trait Source: Grammar {

@@ -7,7 +7,7 @@ ghost use Rattle.linear_fold.specs.declared.fold_fault.FoldFault.{FoldFault};
 ghost use Rattle.name_files.specs.Names.{Counts};
 ghost use Rattle.nl_segments.specs.Grammar.{NlValue};
 ghost use Rattle.nl_segments.specs.Reader.{IsNl};
-ghost use Rattle.texts.specs.Reading.{lines_of};
+ghost use Rattle.text_base.specs.Reading.{lines_of};
 ghost use Rattle.command_parts.specs.NameLists.{IsListRefused};
 ghost use Rattle.command_parts.specs.NlTold.{HasFaultLine};
 ghost use Rattle.command_parts.specs.Refusal.{HasTextRefusal, IsAnswerRefused, IsCertificateRefused, IsFixedRefused, IsMpsRefused, IsProofRefused, IsSolRefused};

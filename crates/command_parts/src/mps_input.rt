@@ -10,11 +10,11 @@ ghost use Rattle.command_core.specs.SeveralFiles.{ReadsFile, itself};
 
 use crate::input::{Source, open};
 use command_core::{Answer, Refusal, refusal};
-use desk::Desk;
 use fixed_mps::FixedGrammar;
 use mps_model::Mps;
 use mps_reader::{MpsFault, MpsGrammar};
 use std::alloc::Global;
+use text_base::Desk;
 
 impl Source for MpsGrammar {
     ghost told = { λ _. fault_line mps_reason_text 1 };

@@ -9,11 +9,11 @@ ghost use Rattle.command_core.specs.SeveralFiles.{ReadsFile, itself};
 
 use crate::input::{Source, open};
 use command_core::{Answer, Refusal, refusal};
-use desk::Desk;
+use mps_model::NameList;
 use name_files::{NameFault, NameGrammar};
-use name_lists::NameList;
 use nl_model::NlFile;
 use std::alloc::Global;
+use text_base::Desk;
 
 impl Source for NameGrammar {
     ghost told = { fault_line name_reason_text };

@@ -9,10 +9,9 @@ ghost use Rattle.command_core.specs.SeveralFiles.{ReadsFile};
 use crate::input::{Source, open};
 use crate::nl_told::nl_refusal;
 use command_core::{Answer, Refusal};
-use desk::Desk;
 use nl_segments::{NlGrammar, NlRead, NlReason, fault_of};
 use std::alloc::Global;
-use texts::TextFault;
+use text_base::{Desk, TextFault};
 
 impl Source for NlGrammar {
     ghost told = { λ _ fault. nl_line (fault_of fault) };

@@ -7,7 +7,7 @@ use command_core::{Refusal, put_number, put_refused_at, refusal};
 use linear_fold::FoldFault;
 use nl_lines::{NlFault, NlReason};
 use nl_segments::Places;
-use scaling::ScaleFault;
+use row_scaling::ScaleFault;
 use written_texts::LineText;
 
 // Puts the number of a refused opcode in front, after a blank.

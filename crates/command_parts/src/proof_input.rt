@@ -1,21 +1,21 @@
 // Reading and judging a proof text.
 ghost use Rattle.std.specs.Prelude.{◌≡◌, ◌≢◌, IfErr, IfOk};
-ghost use Rattle.file_certificates.specs.Files.{IsProofIn};
-ghost use Rattle.proof_text.specs.Reader.{IsProofText};
-ghost use Rattle.file_certificates.specs.Setting.{setting_of};
-ghost use Rattle.proof_text.specs.Reasons.{proof_reason_text};
+ghost use Rattle.problems.specs.Files.{IsProofIn};
+ghost use Rattle.branch_proof.specs.Reader.{IsProofText};
+ghost use Rattle.problems.specs.NlSetting.{setting_of};
+ghost use Rattle.branch_proof.specs.Reasons.{proof_reason_text};
 ghost use Rattle.command_core.specs.Told.{fault_line};
 ghost use Rattle.command_core.specs.InsideAnswer.{status_of};
 ghost use Rattle.command_parts.specs.Refusal.{IsProofRefused};
 ghost use Rattle.command_core.specs.SeveralFiles.{ReadsFile, itself};
 
 use crate::input::{Source, open};
+use branch_proof::{ProofFault, ProofGrammar};
 use certificates::proof::Proof;
 use command_core::{Answer, Refusal, refusal};
-use desk::Desk;
 use nl_model::{NlFile, all_kinds};
-use proof_text::{ProofFault, ProofGrammar};
 use std::alloc::Global;
+use text_base::Desk;
 
 impl Source for ProofGrammar {
     ghost told = { fault_line proof_reason_text };

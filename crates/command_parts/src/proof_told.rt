@@ -1,11 +1,11 @@
 // The lines of verdicts on proofs.
 ghost use Rattle.std.specs.Prelude.{◌≡◌, IfOk};
 ghost use Rattle.certificate_judge.specs.Outcomes.{fault_found};
-ghost use Rattle.branch_check.specs.Leaves.{fault_of};
+ghost use Rattle.branch_proof.specs.Leaves.{fault_of};
 ghost use Rattle.command_parts.specs.ProofTold.{leaf_line};
 
 use crate::certificate_told::failed_line;
-use branch_check::ProofVerdict;
+use branch_proof::ProofVerdict;
 use certificate_judge::{Cause, LeafFault};
 use std::alloc::{AllocError, Global};
 

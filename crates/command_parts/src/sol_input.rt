@@ -9,10 +9,9 @@ ghost use Rattle.command_core.specs.SeveralFiles.{ReadsFile, itself};
 
 use crate::input::{Source, open};
 use command_core::{Answer, Refusal, refusal};
-use desk::Desk;
 use sol_files::{Refusal as Found, Sol, SolGrammar, told};
 use std::alloc::Global;
-use texts::TextFault;
+use text_base::{Desk, TextFault};
 
 impl Source for SolGrammar {
     ghost told = { λ number found. sol_line number (told_as found) };

@@ -6,20 +6,19 @@ ghost use Rattle.linear_program.specs.Programs.{linear_value};
 ghost use Rattle.mps_model.specs.Mps.{with_values};
 ghost use Rattle.nl_model.specs.Rules.{IsFile};
 ghost use Rattle.nl_segments.specs.Reader.{HasLines, value_of};
-ghost use Rattle.exported_program.specs.Program.{mps_of};
-ghost use Rattle.scaling.specs.Exported.{scaled_as};
+ghost use Rattle.scaled_program.specs.ExportedProgram.{mps_of};
+ghost use Rattle.row_scaling.specs.Exported.{scaled_as};
 ghost use Rattle.command_parts.specs.Stages.{Folds, Scales, fold_steps};
 
 use crate::nl_told::{fold_refusal, scale_refusal};
 use command_core::Refusal;
 use linear_fold::fold_file;
 use linear_program::Linear;
-use mps_export::program;
 use mps_model::Mps;
 use nl_segments::NlRead;
-use scaling::{Scaled, scale_program};
+use row_scaling::{Scaled, program, scale_program};
 use std::alloc::{AllocError, Global};
-use texts::{Ledger, Steps, Stop};
+use text_base::{Ledger, Steps, Stop};
 
 /// The linear program of what was read, which is let go, or its first fault. A fault that was found
 /// wants no memory.
@@ -36,6 +35,7 @@ pub fn fold_read<L: Ledger>(
     ensures counts { steps.new ≤ steps.old + fold_steps (value_of read) objective }
 {
     let NlRead { file, places } = read;
+    // for the prover alone: it brings what an `NlFile` always keeps
     let _ = file.header();
     match fold_file(alloc, file, objective, steps) {
         Ok(linear) => Ok(linear),

@@ -4,9 +4,9 @@ ghost use Rattle.exact_checks.specs.Answers.{answer_of};
 ghost use Rattle.exact_checks.specs.declared.verdict.Verdict.TheVariants.{TooWide};
 ghost use Rattle.command_parts.specs.VerdictTold.{fit_line, is_yes, negative_line, verdict_line, verdict_text};
 
+use certificate_check::FitFault;
 use command_core::{Refusal, fixed, put_signed, refusal_of};
 use exact_checks::{Spot, Verdict};
-use solution_fit::FitFault;
 use std::alloc::{AllocError, Global};
 
 // Where a number does not fit.

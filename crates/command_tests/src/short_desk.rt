@@ -49,7 +49,7 @@ pub(crate) fn front(bytes: &[u8], count: usize) -> &[u8]
 }
 
 impl Desk for ShortDesk {
-    ghost use Rattle.desk.specs.Memory.{meaning_of};
+    ghost use Rattle.text_base.specs.Memory.{meaning_of};
 
     ghost meaning = { λ d. meaning_of d.inner };
 

@@ -1,12 +1,14 @@
 -- What each answer keeps: its numbers are small, its message is lines of a text, none of them
 -- `Options`, and its suffixes are within their limits.
-use Rattle.std.proofs.Common.{◌≡◌, ◌∙◌, ℕ, suc, ◌<◌, ◌≤◌, Bool, true, false, ◌^◌, nat_le, cond, eqb, List, [], ◌∷◌, ◌++◌, length, get_or, Option, Some, None, refl, sym, ap, subst, arith, ◌&&◌, ltb, ◌+◌, ◌/◌, ◌%◌, ◌==◌, not, ◌||◌, nat_lt, is_none, length-append, length-drop}
+use Rattle.std.proofs.Common.{◌≡◌, ◌∙◌, ℕ, suc, ◌<◌, ◌≤◌, Bool, true, false, ◌^◌, nat_le, cond, eqb, List, [], ◌∷◌}
+use Rattle.std.proofs.Common.{◌++◌, length, get_or, Option, Some, None, refl, sym, ap, subst, arith, ◌&&◌, ltb, ◌+◌}
+use Rattle.std.proofs.Common.{◌/◌, ◌%◌, ◌==◌, not, ◌||◌, nat_lt, is_none, length-append, length-drop}
 use Rattle.std.specs.Prelude.{option_map, codes, IfSome, unwrap_or, option_and_then}
 use Rattle.std.specs.List.{AllByRecursion}
 use Rattle.std.specs.Str.{bytes_eq}
-use Rattle.texts.specs.Judged.{first_reason}
-use Rattle.texts.specs.Reading.{lines_of, last_of}
-use Rattle.texts.specs.Words.{row_of, without_blanks, word_at, is_blank}
+use Rattle.text_base.specs.Judged.{first_reason}
+use Rattle.text_base.specs.Reading.{lines_of, last_of}
+use Rattle.text_base.specs.Words.{row_of, without_blanks, word_at, is_blank}
 use Rattle.exact_numbers.specs.declared.dec.Dec.{Dec}
 use Rattle.exact_numbers.specs.Numbers.{dec_of, are_digits, whole_of, is_whole}
 use Rattle.answer_file.specs.declared.fault.AnswerReason.TheVariants.{BadLine, TooLarge, BadNumber, UnknownName, Repeated}
@@ -15,33 +17,37 @@ use Rattle.answer_file.specs.declared.keyword.Keyword.TheVariants.{Status, Messa
 use Rattle.answer_file.specs.declared.target.Target.{Target}
 use Rattle.answer_file.specs.declared.target.Target.TheVariants.{Tied, Place}
 use Rattle.answer_file.specs.Names.{Setting, column_target, row_target, object_target, column_name, row_name, tied_column, tied_row, if_exported, only}
-use Rattle.answer_file.specs.Entries.{Entry, StatusIs, SignIs, ObjectiveIs, ColumnValue, RowValue, message_in, entry_by, entry_in, keyword_of, at_place, suffix_entry, suffix_in, status_in, sign_in, objective_in, kind_in, below, SuffixLine, number_below}
-use Rattle.answer_file.specs.Grammar.{Standing, standing, first_tests, line_tests, row_tests, tests_by, message_tests, answer_rules, AnswerValue, Tests, differs, is_bad_value, is_full, is_given_in, kind_tests, object_tests, suffix_tests}
+use Rattle.answer_file.specs.Entries.{Entry, StatusIs, SignIs, ObjectiveIs, ColumnValue, RowValue, message_in, entry_by}
+use Rattle.answer_file.specs.Entries.{entry_in, keyword_of, at_place, suffix_entry, suffix_in, status_in, sign_in}
+use Rattle.answer_file.specs.Entries.{objective_in, kind_in, below, SuffixLine, number_below}
+use Rattle.answer_file.specs.Grammar.{Standing, standing, first_tests, line_tests, row_tests, tests_by, message_tests}
+use Rattle.answer_file.specs.Grammar.{answer_rules, AnswerValue, Tests, differs, is_bad_value, is_full, is_given_in}
+use Rattle.answer_file.specs.Grammar.{kind_tests, object_tests, suffix_tests}
 use Rattle.answer_file.specs.Steps.{with_entry, with_said, after, new_suffix, with_line, with_suffix_line}
 use Rattle.answer_file.specs.Reading.{IsAnswer}
 use Rattle.answer_file.proofs.StandingLemmas.{standing_more, standing_none}
 use Rattle.sol_files.specs.Built.{IsMessageLine}
-use Rattle.texts.specs.Cut.{IsTextLine}
-use Rattle.texts.proofs.LineLemmas.{lines_of-lines, one_line-blanks, one_line-drop}
+use Rattle.text_base.specs.Cut.{IsTextLine}
+use Rattle.text_base.proofs.LineLemmas.{lines_of-lines, one_line-blanks, one_line-drop}
 use Rattle.std.specs.Option.{option_or}
 use Rattle.std.specs.Str.Parse.{digits_value}
 use Rattle.std.proofs.lemmas.Bool.{cond_both, ltb-true, eqb-true, leb-false, not-false, and_parts, or_parts, lt-ltb}
-use Rattle.texts.specs.Names.{is_name}
+use Rattle.text_base.specs.Names.{is_name}
 use Rattle.nl_model.specs.declared.suffix.Suffix.{Suffix as FileSuffix}
-use Rattle.shared_parts.specs.declared.suffix_kinds.Objects.{Objects}
-use Rattle.shared_parts.specs.declared.suffix_kinds.Objects.TheVariants.{Variables, Constraints, Objectives, Problem}
+use Rattle.nl_model.specs.declared.suffix_kinds.Objects.{Objects}
+use Rattle.nl_model.specs.declared.suffix_kinds.Objects.TheVariants.{Variables, Constraints, Objectives, Problem}
 use Rattle.nl_model.specs.Rules.{is_suffix_of}
-use Rattle.shared_parts.specs.SuffixKinds.{has_same_objects, object_limit, objects_of, wants_whole, count_among}
-use Rattle.name_lists.specs.Names.{index_named}
-use Rattle.name_lists.proofs.NumeralLemmas.{position-cons, named_so}
+use Rattle.nl_model.specs.SuffixKinds.{has_same_objects, object_limit, objects_of, wants_whole, count_among}
+use Rattle.mps_model.specs.Names.{index_named}
+use Rattle.mps_model.proofs.NumeralLemmas.{position-cons, named_so}
 use Rattle.answer_file.specs.Suffixes.{has_place, place_named, suffix_at, suffix_named, value_count}
-use Rattle.shared_parts.proofs.ObjectLemmas.{same_objects}
+use Rattle.nl_model.proofs.ObjectLemmas.{same_objects}
 use Rattle.answer_file.proofs.TableLemmas.{one_value_more}
 use Rattle.sol_files.specs.Written.{IsSaidLine, are_values}
 use Rattle.sol_files.proofs.KeptTail.{values_push}
-use Rattle.texts.proofs.AllLemmas.{all_here, all_push}
-use Rattle.texts.proofs.JudgedLemmas.{clean_keeps}
-use Rattle.texts.proofs.FirstReasons.{none_head}
+use Rattle.text_base.proofs.AllLemmas.{all_here, all_push}
+use Rattle.text_base.proofs.JudgedLemmas.{clean_keeps}
+use Rattle.text_base.proofs.FirstReasons.{none_head}
 
 -- ---- values of a suffix
 
@@ -79,7 +85,9 @@ same_limit s a b e = ap (count_among s.columns (length s.exported) 1) (same_obje
 same_wants : (x : FileSuffix) (kind : ℕ) → differs (Some x) kind ≡ false → wants_whole x.kind ≡ wants_whole kind
 same_wants x kind e = ap (λ k. k == 0) (eqb-true ((x.kind / 4) % 2) ((kind / 4) % 2) (not-false _ e))
 
-one_fine : (s : Setting) (x : FileSuffix) (line : SuffixLine) → IsFine s x → IsFineLine s line → is_suffix_of line.kind line.name x ≡ true → differs (Some x) line.kind ≡ false → has_place x.values line.place ≡ false → IsFine s (with_line x line)
+one_fine : (s : Setting) (x : FileSuffix) (line : SuffixLine) → IsFine s x → IsFineLine s line
+    → is_suffix_of line.kind line.name x ≡ true → differs (Some x) line.kind ≡ false
+    → has_place x.values line.place ≡ false → IsFine s (with_line x line)
 one_fine s x line h l same alike fresh =
     let objects = (and_parts (has_same_objects x.kind line.kind) (bytes_eq x.name line.name) same).0 in
     let limit = same_limit s x.kind line.kind objects in
@@ -102,17 +110,23 @@ new_fine s line l = record {
   values = values_push (limit_of s line.kind) (wants_whole line.kind) [] [] (line.place, line.value) (no-values (limit_of s line.kind) (wants_whole line.kind)) l.place refl l.fits;
 }
 
-line_fine : (s : Setting) (xs : List FileSuffix) (line : SuffixLine) → AllByRecursion (IsFine s) xs → IsFineLine s line → differs (suffix_named xs line.kind line.name) line.kind ≡ false → is_given_in (suffix_named xs line.kind line.name) (Some (Place line.place)) ≡ false
+line_fine : (s : Setting) (xs : List FileSuffix) (line : SuffixLine) → AllByRecursion (IsFine s) xs → IsFineLine s line
+    → differs (suffix_named xs line.kind line.name) line.kind ≡ false
+    → is_given_in (suffix_named xs line.kind line.name) (Some (Place line.place)) ≡ false
     → AllByRecursion (IsFine s) (with_suffix_line xs line)
 line_fine s [] line all l alike fresh = (new_fine s line l, tt)
 line_fine s (x ∷ xs) line all l alike fresh =
-    by (is_suffix_of line.kind line.name x) refl (line_fine s xs line all.1 l) (sym (ap (λ o. differs o line.kind) found) ∙ alike) (sym (ap (λ o. is_given_in o (Some (Place line.place))) found) ∙ fresh)
+    by (is_suffix_of line.kind line.name x) refl (line_fine s xs line all.1 l)
+    (sym (ap (λ o. differs o line.kind) found) ∙ alike) (sym (ap (λ o. is_given_in o (Some (Place line.place))) found)
+    ∙ fresh)
   where
     found : suffix_named (x ∷ xs) line.kind line.name ≡ cond (is_suffix_of line.kind line.name x) (Some x) (suffix_named xs line.kind line.name)
     found = named-cons x xs line.kind line.name
 
     by : (b : Bool) → is_suffix_of line.kind line.name x ≡ b
-        → (differs (suffix_named xs line.kind line.name) line.kind ≡ false → is_given_in (suffix_named xs line.kind line.name) (Some (Place line.place)) ≡ false → AllByRecursion (IsFine s) (with_suffix_line xs line))
+        → (differs (suffix_named xs line.kind line.name) line.kind ≡ false
+        → is_given_in (suffix_named xs line.kind line.name) (Some (Place line.place)) ≡ false
+        → AllByRecursion (IsFine s) (with_suffix_line xs line))
         → differs (cond b (Some x) (suffix_named xs line.kind line.name)) line.kind ≡ false → is_given_in (cond b (Some x) (suffix_named xs line.kind line.name)) (Some (Place line.place)) ≡ false
         → AllByRecursion (IsFine s) (cond b (with_line x line ∷ xs) (x ∷ with_suffix_line xs line))
     by true same later a f = (one_fine s x line all.0 l same a f, all.1)
@@ -254,7 +268,14 @@ message_said st line one e h =
     let room = leb-false (2 ^ 16) (length st.message) (none_head (nat_le (2 ^ 16) (length st.message)) TooLarge [] tests.1).0 in
     let short : length (message_in line) ≤ 65536 = omega (arith, length-drop 8 (without_blanks line), blanks_length line, one.short) in
     record {
-      each = all_push IsSaidLine st.message (message_in line) h.each (record { line_of_text = record { one = one_line-drop 8 (without_blanks line) (one_line-blanks line one.one); short = short }; other = tests.0 });
+      each = all_push IsSaidLine st.message (message_in line) h.each
+          (record {
+            line_of_text = record {
+              one = one_line-drop 8 (without_blanks line) (one_line-blanks line one.one);
+              short = short;
+            };
+            other = tests.0;
+          });
       few = omega (arith, room, length-append st.message (message_in line ∷ []));
     }
 
@@ -273,23 +294,33 @@ taken_kept s suffixes line h t =
     }
 
 -- where a line says no entry, nothing changes
-said_kept : {A : Type 0} (s : Setting) (st : Standing) (entry : A → Entry) (o : Option A) → Kept s st → ((x : A) → o ≡ Some x → Kept s (with_entry st (entry x))) → Kept s (with_said st (option_map entry o))
+said_kept : {A : Type 0} (s : Setting) (st : Standing) (entry : A → Entry) (o : Option A) → Kept s st
+    → ((x : A) → o ≡ Some x → Kept s (with_entry st (entry x))) → Kept s (with_said st (option_map entry o))
 said_kept s st entry None h step = h
 said_kept s st entry (Some x) h step = step x refl
 
-placed_kept : (s : Setting) (st : Standing) (entry : ℕ → Dec → Entry) (target : Option Target) (value : Option Dec) → Kept s st → ((i : ℕ) (v : Dec) → target ≡ Some (Place i) → value ≡ Some v → Kept s (with_entry st (entry i v)))
+placed_kept : (s : Setting) (st : Standing) (entry : ℕ → Dec → Entry) (target : Option Target) (value : Option Dec)
+    → Kept s st → ((i : ℕ) (v : Dec) → target ≡ Some (Place i) → value ≡ Some v → Kept s (with_entry st (entry i v)))
     → Kept s (with_said st (at_place entry target value))
 placed_kept s st entry None value h step = h
 placed_kept s st entry (Some Tied) value h step = h
 placed_kept s st entry (Some (Place i)) None h step = h
 placed_kept s st entry (Some (Place i)) (Some v) h step = step i v refl refl
 
-kind_kept : (s : Setting) (st : Standing) (words : List (List ℕ)) (kind : Option ℕ) → kind_in words ≡ kind → is_name (word_at words 2) ≡ true → first_reason (kind_tests s st.suffixes words kind) ≡ None → Kept s st → Kept s (with_said st (suffix_in s words kind))
+kind_kept : (s : Setting) (st : Standing) (words : List (List ℕ)) (kind : Option ℕ) → kind_in words ≡ kind
+    → is_name (word_at words 2) ≡ true → first_reason (kind_tests s st.suffixes words kind) ≡ None → Kept s st
+    → Kept s (with_said st (suffix_in s words kind))
 kind_kept s st words None same named e h = h
 kind_kept s st words (Some kind) same named e h =
     placed_kept s st (suffix_entry kind (word_at words 2)) (object_target s (objects_of kind) (word_at words 3)) (dec_of (word_at words 4)) h (λ i v at is.
     let taken = object_taken s st.suffixes kind (word_at words 2) (word_at words 3) i v (number_small 8 (word_at words 1) kind same) named at (rw (at, is) at e) in
-    record { status = h.status; objective = h.objective; message = h.message; suffixes = taken_kept s st.suffixes (record { kind = kind; name = word_at words 2; place = i; value = v }) h.suffixes taken })
+    record {
+      status = h.status;
+      objective = h.objective;
+      message = h.message;
+      suffixes =
+          taken_kept s st.suffixes (record { kind = kind; name = word_at words 2; place = i; value = v }) h.suffixes taken;
+    })
 
 suffix_kept : (s : Setting) (st : Standing) (words : List (List ℕ)) → first_reason (suffix_tests s st.suffixes words) ≡ None → Kept s st → Kept s (with_said st (suffix_in s words (kind_in words)))
 unfolding suffix_tests
@@ -299,7 +330,9 @@ suffix_kept s st words e h =
     let name = none_head (not (is_name (word_at words 2))) BadLine rest form.1 in
     kind_kept s st words (kind_in words) refl (not-false (is_name (word_at words 2)) name.0) name.1 h
 
-entry_kept : (s : Setting) (st : Standing) (line : List ℕ) (words : List (List ℕ)) (k : Option Keyword) → IsTextLine line → first_reason (tests_by s st line words k) ≡ None → Kept s st → Kept s (with_said st (entry_by s line words k))
+entry_kept : (s : Setting) (st : Standing) (line : List ℕ) (words : List (List ℕ)) (k : Option Keyword)
+    → IsTextLine line → first_reason (tests_by s st line words k) ≡ None → Kept s st
+    → Kept s (with_said st (entry_by s line words k))
 entry_kept s st line words None one e h = h
 entry_kept s st line words (Some Status) one e h = said_kept s st StatusIs (status_in words) h (λ n is.
     record { status = first_small st.status n h.status (omega (arith, number_small 1000 (word_at words 1) n is)); objective = h.objective; message = h.message; suffixes = h.suffixes })
@@ -311,7 +344,8 @@ entry_kept s st line words (Some Col) one e h = placed_kept s st ColumnValue (co
 entry_kept s st line words (Some Row) one e h = placed_kept s st RowValue (row_target s (word_at words 1)) (dec_of (word_at words 2)) h (λ i v at is. h)
 entry_kept s st line words (Some Suffix) one e h = suffix_kept s st words e h
 
-chosen_kept : (s : Setting) (st : Standing) (line : List ℕ) (none begun : Bool) → IsTextLine line → first_reason (cond none [] (cond begun (row_tests s st line) (first_tests (row_of line)))) ≡ None → Kept s st
+chosen_kept : (s : Setting) (st : Standing) (line : List ℕ) (none begun : Bool) → IsTextLine line
+    → first_reason (cond none [] (cond begun (row_tests s st line) (first_tests (row_of line)))) ≡ None → Kept s st
     → Kept s (cond none st (cond begun (with_said st (entry_in s line)) (record st { begun = true })))
 unfolding row_tests entry_in
 chosen_kept s st line true begun one e h = h
@@ -323,7 +357,13 @@ unfolding line_tests after
 line_kept s st line one e h = chosen_kept s st line (eqb (length (row_of line)) 0) st.begun one e h
 
 nothing_kept : (s : Setting) → Kept s (standing s [])
-nothing_kept s = subst (Kept s) (sym (standing_none s)) (record { status = tt; objective = tt; message = record { each = tt; few = omega arith }; suffixes = record { fine = tt; few = omega arith; few_values = omega arith } })
+nothing_kept s = subst (Kept s) (sym (standing_none s)) (record {
+  status = tt;
+  objective = tt;
+  message = record { each = tt; few = omega arith };
+  suffixes =
+      record { fine = tt; few = omega arith; few_values = omega arith };
+})
 
 -- ---- all lines
 

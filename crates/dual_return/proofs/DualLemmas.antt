@@ -1,21 +1,23 @@
 -- The dual of a row, from the answer's value and the factor.
-use Rattle.std.proofs.Common.{◌≡◌, inl, inr, ◌∙◌, ℕ, zero, suc, below_more, ◌+◌, ◌<◌, ℤ, pos, ◌*ℤ◌, Bool, true, false, ◌&&◌, List, [], ◌∷◌, ◌++◌, length, get_or, IsTrue, Option, Some, None, refl, sym, ap, subst, arith}
+use Rattle.std.proofs.Common.{◌≡◌, inl, inr, ◌∙◌, ℕ, zero, suc, below_more, ◌+◌, ◌<◌, ℤ, pos, ◌*ℤ◌, Bool, true, false}
+use Rattle.std.proofs.Common.{◌&&◌, List, [], ◌∷◌, ◌++◌, length, get_or, IsTrue, Option, Some, None, refl, sym, ap}
+use Rattle.std.proofs.Common.{subst, arith}
 use Rattle.std.specs.Prelude.{slice_get}
 use Rattle.std.proofs.lemmas.Bool.{both_ways}
 use Rattle.std.proofs.lemmas.List.{length-append}
-use Rattle.fractions.specs.Rational.{whole, zero_ℚ, ◌*ℚ◌}
-use Rattle.fractions.proofs.Arithmetic.{whole-*ℚ}
+use Rattle.exact_numbers.specs.Rational.{whole, zero_ℚ, ◌*ℚ◌}
+use Rattle.exact_numbers.proofs.RationalLaws.{whole-*ℚ}
 use Rattle.exact_numbers.specs.declared.dec.Dec.{Dec}
 use Rattle.exact_numbers.specs.Values.{dec_value, IsInReach}
-use Rattle.program_meaning.specs.Linear.{Linear, row_at}
+use Rattle.linear_program.specs.Linear.{Linear, row_at}
 use Rattle.nl_model.specs.File.{File}
-use Rattle.file_meaning.specs.Expressions.{maximises}
-use Rattle.file_meaning.specs.LinearFile.{linear_of}
+use Rattle.nl_model.specs.Expressions.{maximises}
+use Rattle.nl_model.specs.LinearFile.{linear_of}
 use Rattle.scaled_program.specs.Fits.{factor_of_row}
 use Rattle.scaled_program.specs.Program.{is_exported}
-use Rattle.scaling.specs.Exported.{scaled_as}
-use Rattle.scaling.specs.Scaled.{ScaledValue}
-use Rattle.scaling.specs.Scaling.{IsScaledOf, factor_at}
+use Rattle.row_scaling.specs.Exported.{scaled_as}
+use Rattle.row_scaling.specs.Scaled.{ScaledValue}
+use Rattle.row_scaling.specs.Scaling.{IsScaledOf, factor_at}
 use Rattle.answer_file.specs.Grammar.{AnswerValue}
 use Rattle.dual_return.specs.Return.{sign_by, sign_of, multiplier_of, linear_for, IsDualAt, Reaches, IsTooWideAt, AreDuals, DualBy}
 
@@ -30,17 +32,20 @@ stable false true h = absurd (h (λ e. absurd cc))
 -- the sign by the scaled program is that of the file
 same-sign : (f : File) (a : AnswerValue) (s : ScaledValue) → IsScaledOf (linear_for f a) s → sign_by (a.min_sign && s.maximise) ≡ sign_of f a
 unfolding linear_of scaled_as
-same-sign f a s h = ap (λ b. sign_by (a.min_sign && b)) (stable s.maximise (maximises f a.objective) (λ ne. ne (ap (λ p. p.maximise) (h.program.tied (λ decimal. ne (ap (λ p. p.maximise) (h.program.plain decimal)))))))
+same-sign f a s h = ap (λ b. sign_by (a.min_sign && b)) (stable s.maximise (maximises f a.objective)
+    (λ ne. ne (ap (λ p. p.maximise) (h.program.tied (λ decimal. ne (ap (λ p. p.maximise) (h.program.plain decimal)))))))
 
 -- ---- factors
 
-exported-by : (f : Linear) (s : ScaledValue) (i : ℕ) (g : ℤ) (b : Bool) → is_exported (row_at f i) ≡ b → IsScaledOf f s → factor_at s i ≡ Some g → IsTrue (is_exported (row_at f i)) × (g ≡ pos (factor_of_row f i))
+exported-by : (f : Linear) (s : ScaledValue) (i : ℕ) (g : ℤ) (b : Bool) → is_exported (row_at f i) ≡ b → IsScaledOf f s
+    → factor_at s i ≡ Some g → IsTrue (is_exported (row_at f i)) × (g ≡ pos (factor_of_row f i))
 exported-by f s i g true e h is = (e, let same = sym is ∙ h.factors.exported i e in cc)
 exported-by f s i g false e h is = absurd (let none = h.factors.others i (both_ways _ e) in cc)
 
 -- ---- one dual
 
-by-value : (value : Option Dec) (factor : Option ℤ) (sign : ℤ) (d w : Dec) (g : ℤ) → DualBy value factor sign (Some d) → value ≡ Some w → factor ≡ Some g → IsInReach w (sign *ℤ g) × (dec_value d ≡ dec_value w *ℚ whole (sign *ℤ g))
+by-value : (value : Option Dec) (factor : Option ℤ) (sign : ℤ) (d w : Dec) (g : ℤ) → DualBy value factor sign (Some d)
+    → value ≡ Some w → factor ≡ Some g → IsInReach w (sign *ℤ g) × (dec_value d ≡ dec_value w *ℚ whole (sign *ℤ g))
 by-value value factor sign d w g h e is = rw (e, is) at h
 
 by-other : (value : Option Dec) (factor : Option ℤ) (sign : ℤ) (d : Dec) → DualBy value factor sign (Some d) → factor ≡ None → dec_value d ≡ zero_ℚ
@@ -64,7 +69,8 @@ by-none value None sign h = absurd h
 by-none None (Some g) sign h = absurd h
 by-none (Some w) (Some g) sign h = record { w = w; g = g; given = refl; has = refl; wide = h }
 
-pub dual-at : (f : File) (a : AnswerValue) (s : ScaledValue) (i : ℕ) (value : Option Dec) (factor : Option ℤ) (d : Dec) → IsScaledOf (linear_for f a) s → value ≡ get_or a.rows i None → factor ≡ factor_at s i
+pub dual-at : (f : File) (a : AnswerValue) (s : ScaledValue) (i : ℕ) (value : Option Dec) (factor : Option ℤ) (d : Dec)
+    → IsScaledOf (linear_for f a) s → value ≡ get_or a.rows i None → factor ≡ factor_at s i
     → DualBy value factor (sign_by (a.min_sign && s.maximise)) (Some d) → IsDualAt f a i d
 dual-at f a s i value factor d h v g by =
     let l = linear_for f a in
@@ -89,13 +95,16 @@ pub record AreFirst (a : AnswerValue) (s : ScaledValue) (duals : List Dec) (n : 
   pub each : (f : File) → IsScaledOf (linear_for f a) s → (i : ℕ) (d : Dec) → slice_get duals i ≡ Some d → IsDualAt f a i d
   pub reach : (f : File) → IsScaledOf (linear_for f a) s → (k : ℕ) → k < n → Reaches f a k
 
-pub each-push : {A : Type 0} (P : ℕ → A → Type 0) (xs : List A) (y : A) → ((i : ℕ) (x : A) → slice_get xs i ≡ Some x → P i x) → P (length xs) y → (i : ℕ) (x : A) → slice_get (xs ++ y ∷ []) i ≡ Some x → P i x
+pub each-push : {A : Type 0} (P : ℕ → A → Type 0) (xs : List A) (y : A)
+    → ((i : ℕ) (x : A) → slice_get xs i ≡ Some x → P i x) → P (length xs) y → (i : ℕ) (x : A)
+    → slice_get (xs ++ y ∷ []) i ≡ Some x → P i x
 each-push P [] y all last zero x e = let same : y ≡ x = cc in subst (P 0) same last
 each-push P [] y all last (suc i) x e = absurd (cc)
 each-push P (z ∷ xs) y all last zero x e = all 0 x e
 each-push P (z ∷ xs) y all last (suc i) x e = each-push (λ k. P (suc k)) xs y (λ k. all (suc k)) last i x e
 
-pub first-more : (a : AnswerValue) (s : ScaledValue) (duals next : List Dec) (n : ℕ) (value : Option Dec) (factor : Option ℤ) (d : Dec) → AreFirst a s duals n → value ≡ get_or a.rows n None → factor ≡ factor_at s n
+pub first-more : (a : AnswerValue) (s : ScaledValue) (duals next : List Dec) (n : ℕ) (value : Option Dec)
+    (factor : Option ℤ) (d : Dec) → AreFirst a s duals n → value ≡ get_or a.rows n None → factor ≡ factor_at s n
     → DualBy value factor (sign_by (a.min_sign && s.maximise)) (Some d) → next ≡ duals ++ d ∷ [] → AreFirst a s next (n + 1)
 first-more a s duals next n value factor d h v g by pushed =
     subst (λ (ds : List Dec). AreFirst a s ds (n + 1)) (sym pushed)

@@ -2,23 +2,23 @@
 use Rattle.std.proofs.Common.{◌≡◌, ◌∙◌, ℕ, ◌<◌, List, [], length, get_or, IsTrue, Some, None, sym, ap, subst, arith}
 use Rattle.std.specs.Prelude.{slice_get}
 use Rattle.std.proofs.lemmas.Option.{slice_get_within}
-use Rattle.fractions.specs.Rational.{ℚ, whole, ◌*ℚ◌, ◌-ℚ◌}
-use Rattle.program_meaning.specs.Linear.{Row, form_value, no_row, row_at, variable_count}
+use Rattle.exact_numbers.specs.Rational.{ℚ, whole, ◌*ℚ◌, ◌-ℚ◌}
+use Rattle.linear_program.specs.Linear.{Row, form_value, no_row, row_at, variable_count}
 use Rattle.exact_numbers.specs.declared.dec.Dec.{Dec}
 use Rattle.exact_numbers.specs.Values.{dec_value}
 use Rattle.scaled_program.specs.Fits.{factor_of_row, factor_of_objective}
 use Rattle.scaled_program.specs.Program.{is_exported}
 use Rattle.scaled_program.specs.Return.{dual_of}
-use Rattle.exported_program.proofs.Return.{law_of_return, law_of_return_tied}
+use Rattle.scaled_program.proofs.ExportedReturn.{law_of_return, law_of_return_tied}
 use Rattle.nl_model.specs.File.{File}
 use Rattle.nl_model.specs.Rules.{IsFile}
-use Rattle.file_meaning.specs.FoldFaults.{fold_fault}
-use Rattle.file_meaning.specs.LinearFile.{HasLines, body_form, linear_of, linear_row}
-use Rattle.file_meaning.specs.Meaning.{body_value}
-use Rattle.program_meaning.proofs.Elements.{elements_at, elements_length}
-use Rattle.file_meaning.proofs.Files.{count_lem, linear_lem}
-use Rattle.file_meaning.proofs.Folding.{clean_has_lines}
-use Rattle.file_meaning.proofs.Formed.{file_formed}
+use Rattle.nl_model.specs.FoldFaults.{fold_fault}
+use Rattle.nl_model.specs.LinearFile.{HasLines, body_form, linear_of, linear_row}
+use Rattle.nl_model.specs.Meaning.{body_value}
+use Rattle.linear_program.proofs.Elements.{elements_at, elements_length}
+use Rattle.nl_model.proofs.Files.{count_lem, linear_lem}
+use Rattle.nl_model.proofs.Folding.{clean_has_lines}
+use Rattle.nl_model.proofs.Formed.{file_formed}
 use Rattle.answer_file.specs.Grammar.{AnswerValue}
 use Rattle.dual_return.specs.Return.{AreDuals, IsDualTimes, MeanTheProgram, linear_for, sign_of}
 
@@ -46,7 +46,9 @@ module _ (f : File) (a : AnswerValue) (duals : List Dec) (file : IsFile f) (fold
   within i d at = subst (λ (n : ℕ). i < n) all.count (slice_get_within duals i d at)
 
   times : (i : ℕ) (d w : Dec) (xs : List ℚ) (x : ℚ) → slice_get duals i ≡ Some d → IsTrue (is_exported (row_at (linear_for f a) i)) → get_or a.rows i None ≡ Some w
-      → dual_of (whole (sign_of f a)) (dec_value w) (factor_of_row (linear_for f a) i) *ℚ (form_value (row_at (linear_for f a) i).body (variable_count (linear_for f a)) xs -ℚ form_value (row_at (linear_for f a) i).body (variable_count (linear_for f a)) []) ≡ x
+      → dual_of (whole (sign_of f a)) (dec_value w) (factor_of_row (linear_for f a) i)
+      *ℚ (form_value (row_at (linear_for f a) i).body (variable_count (linear_for f a)) xs
+      -ℚ form_value (row_at (linear_for f a) i).body (variable_count (linear_for f a)) []) ≡ x
       → IsDualTimes (dec_value d) (body_value f i xs) (body_value f i []) x
   times i d w xs x at e given law =
       let v = form_value (row_at (linear_for f a) i).body (variable_count (linear_for f a)) in
@@ -61,5 +63,7 @@ module _ (f : File) (a : AnswerValue) (duals : List Dec) (file : IsFile f) (fold
   duals_mean = record {
     plain = λ i d w xs at e given. times i d w xs _ at e given (law_of_return (linear_for f a) (factor_of_row (linear_for f a)) (whole (sign_of f a)) (dec_value w) i xs (in_program i d at) e);
     tied = λ i d w xs z count at e given. times i d w xs _ at e given
-        (law_of_return_tied (linear_for f a) (factor_of_row (linear_for f a)) (factor_of_objective (linear_for f a)) (whole (sign_of f a)) (dec_value w) i xs z (linear_lem f a.objective (file_formed f file a.objective)) (count ∙ sym (count_lem f a.objective)) (in_program i d at) e);
+        (law_of_return_tied (linear_for f a) (factor_of_row (linear_for f a)) (factor_of_objective (linear_for f a))
+        (whole (sign_of f a)) (dec_value w) i xs z (linear_lem f a.objective (file_formed f file a.objective))
+        (count ∙ sym (count_lem f a.objective)) (in_program i d at) e);
   }

@@ -1,12 +1,14 @@
 -- Each answer for a file is returned as one .sol file, or has one first dual that is too wide.
-use Rattle.std.proofs.Common.{below_more, ◌≡◌, ◌⊎◌, inl, inr, ◌∙◌, ℕ, zero, suc, ◌<◌, ◌≤◌, ◌^◌, ℤ, pos, ◌*ℤ◌, Bool, true, false, ltb, List, [], ◌∷◌, ◌++◌, length, map, get_or, IsTrue, Option, Some, None, is_some, refl, sym, ap, subst, arith}
+use Rattle.std.proofs.Common.{below_more, ◌≡◌, ◌⊎◌, inl, inr, ◌∙◌, ℕ, zero, suc, ◌<◌, ◌≤◌, ◌^◌, ℤ, pos, ◌*ℤ◌, Bool}
+use Rattle.std.proofs.Common.{true, false, ltb, List, [], ◌∷◌, ◌++◌, length, map, get_or, IsTrue, Option, Some, None}
+use Rattle.std.proofs.Common.{is_some, refl, sym, ap, subst, arith}
 use Rattle.std.specs.Prelude.{slice_get, unsigned_abs, MatchOption}
 use Rattle.std.specs.List.{list_any}
 use Rattle.std.proofs.lemmas.Bool.{both_ways, lt-ltb, ltb-true}
 use Rattle.std.proofs.lemmas.List.{length-append, ext_get_or}
 use Rattle.std.proofs.lemmas.Option.{slice_get-get_or}
-use Rattle.fractions.specs.Rational.{ℚ, whole, zero_ℚ, ◌*ℚ◌}
-use Rattle.fractions.proofs.Arithmetic.{whole-*ℚ}
+use Rattle.exact_numbers.specs.Rational.{ℚ, whole, zero_ℚ, ◌*ℚ◌}
+use Rattle.exact_numbers.proofs.RationalLaws.{whole-*ℚ}
 use Rattle.exact_numbers.specs.declared.dec.Dec.{Dec}
 use Rattle.exact_numbers.specs.Numbers.{dec_from}
 use Rattle.exact_numbers.specs.Values.{dec_value, fits_dec, IsInReach}
@@ -15,7 +17,7 @@ use Rattle.exact_numbers.proofs.NumberLemmas.{dec_from-some, dec_from-fits}
 use Rattle.exact_numbers.proofs.Spelling.{fits_dec_in, fits_dec_out}
 use Rattle.scaled_program.specs.Fits.{factor_of_row}
 use Rattle.scaled_program.specs.Program.{is_exported}
-use Rattle.program_meaning.specs.Linear.{row_at}
+use Rattle.linear_program.specs.Linear.{row_at}
 use Rattle.scaled_program.specs.Return.{dual_of}
 use Rattle.nl_model.specs.File.{File}
 use Rattle.answer_file.specs.Grammar.{AnswerValue}
@@ -61,7 +63,8 @@ IsOther f a i = (IsTrue (is_exported (row_at (linear_for f a) i)) → ⊥) ⊎ (
 row_case : (f : File) (a : AnswerValue) (i : ℕ) → IsOther f a i ⊎ (IsTrue (is_exported (row_at (linear_for f a) i)) × (w : Dec) × (get_or a.rows i None ≡ Some w))
 row_case f a i = by (is_exported (row_at (linear_for f a) i)) refl (get_or a.rows i None) refl
   where
-    by : (b : Bool) → is_exported (row_at (linear_for f a) i) ≡ b → (o : Option Dec) → get_or a.rows i None ≡ o → IsOther f a i ⊎ (IsTrue (is_exported (row_at (linear_for f a) i)) × (w : Dec) × (get_or a.rows i None ≡ Some w))
+    by : (b : Bool) → is_exported (row_at (linear_for f a) i) ≡ b → (o : Option Dec) → get_or a.rows i None ≡ o
+        → IsOther f a i ⊎ (IsTrue (is_exported (row_at (linear_for f a) i)) × (w : Dec) × (get_or a.rows i None ≡ Some w))
     by false e o g = inl (inl (both_ways _ e))
     by true e None g = inl (inr g)
     by true e (Some w) g = inr (e, w, g)
@@ -134,13 +137,24 @@ one_dual f a i c d x y = elim (row_case f a i) [
 one_duals : (b : Bool) (f : File) (a : AnswerValue) (xs ys : List Dec) → AreDualsIf b f a xs → AreDualsIf b f a ys → xs ≡ ys
 one_duals false f a xs ys p q = p ∙ sym q
 one_duals true f a xs ys p q =
-    ext_get_or zero_dec xs ys (p.count ∙ sym q.count) (λ i h. one_dual f a i _ _ (p.each i _ (slice_get-get_or xs i zero_dec h)) (q.each i _ (slice_get-get_or ys i zero_dec (omega (arith, h, p.count, q.count)))))
+    ext_get_or zero_dec xs ys (p.count ∙ sym q.count) (λ i h. one_dual f a i _ _
+    (p.each i _ (slice_get-get_or xs i zero_dec h)) (q.each i _
+    (slice_get-get_or ys i zero_dec (omega (arith, h, p.count, q.count)))))
 
 -- ---- all of it
 
 returned : (f : File) (a : AnswerValue) (duals : List Dec) → AreDualsIf (list_any is_some a.rows) f a duals → (s : Sol) × IsReturn f a s
 returned f a duals h = (
-  record { message = a.message; options = f.options; n_con = f.counts.n_con; duals = duals; n_var = f.counts.n_var; primals = given a.columns; objno = objno_of a; suffixes = map suffix_for a.suffixes },
+  record {
+    message = a.message;
+    options = f.options;
+    n_con = f.counts.n_con;
+    duals = duals;
+    n_var = f.counts.n_var;
+    primals = given a.columns;
+    objno = objno_of a;
+    suffixes = map suffix_for a.suffixes;
+  },
   record { message = refl; options = refl; constraints = refl; duals = h; variables = refl; primals = refl; objno = refl; suffixes = refl },
 )
 

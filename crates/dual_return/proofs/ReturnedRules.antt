@@ -1,31 +1,33 @@
 -- What an answer is returned as keeps the rules of .sol values and the limits of their parts.
-use Rattle.std.proofs.Common.{◌≡◌, ◌∙◌, ℕ, ◌<◌, ◌≤◌, ◌^◌, ◌==◌, Bool, true, false, not, ◌&&◌, ◌||◌, nat_le, nat_lt, cond, ℤ, pos, List, [], ◌∷◌, length, map, Option, Some, None, is_some, refl, sym, ap, arith}
+use Rattle.std.proofs.Common.{◌≡◌, ◌∙◌, ℕ, ◌<◌, ◌≤◌, ◌^◌, ◌==◌, Bool, true, false, not, ◌&&◌, ◌||◌, nat_le, nat_lt}
+use Rattle.std.proofs.Common.{cond, ℤ, pos, List, [], ◌∷◌, length, map, Option, Some, None, is_some, refl, sym, ap}
+use Rattle.std.proofs.Common.{arith}
 use Rattle.std.specs.Prelude.{IfSome, IsTrue, option_map, sum_by}
 use Rattle.std.specs.List.{AllByRecursion, list_all, list_any}
 use Rattle.std.proofs.lemmas.Bool.Decides.{nat_tests}
 use Rattle.std.proofs.lemmas.Bool.{cond_both, eq-eqb, leb-true, ltb-true, not-true, and_parts, lt-ltb}
 use Rattle.std.proofs.lemmas.List.{length-map}
 use Rattle.std.proofs.lemmas.List.Sums.{sum_by-cons}
-use Rattle.texts.specs.Names.{has_name_bytes}
-use Rattle.texts.specs.Reading.{lines_of}
+use Rattle.text_base.specs.Names.{has_name_bytes}
+use Rattle.text_base.specs.Reading.{lines_of}
 use Rattle.exact_numbers.specs.declared.dec.Dec.{Dec}
 use Rattle.exact_numbers.specs.Numbers.{has_31_bits, is_whole}
 use Rattle.nl_model.specs.File.{File}
 use Rattle.nl_model.specs.declared.suffix.Suffix.{Suffix as FileSuffix}
-use Rattle.shared_parts.specs.declared.suffix_kinds.Objects.{Objects}
-use Rattle.shared_parts.specs.declared.suffix_kinds.Objects.TheVariants.{Objectives}
+use Rattle.nl_model.specs.declared.suffix_kinds.Objects.{Objects}
+use Rattle.nl_model.specs.declared.suffix_kinds.Objects.TheVariants.{Objectives}
 use Rattle.nl_model.specs.HeaderRules.{are_counts, are_options, is_header}
-use Rattle.shared_parts.specs.Options.{has_second_three}
+use Rattle.nl_model.specs.Options.{has_second_three}
 use Rattle.nl_model.specs.Rules.{IsFile}
 use Rattle.nl_model.specs.declared.header_counts.Counts.{Counts}
 use Rattle.nl_model.proofs.Headers.{counts_of_header}
-use Rattle.shared_parts.specs.SuffixKinds.{is_for_objectives, object_limit, objects_of, wants_whole, count_among}
+use Rattle.nl_model.specs.SuffixKinds.{is_for_objectives, object_limit, objects_of, wants_whole, count_among}
 use Rattle.answer_file.specs.declared.naming.Naming.{Naming}
 use Rattle.answer_file.specs.Names.{Setting, setting_by}
 use Rattle.answer_file.specs.Grammar.{AnswerValue, answer_of, standing}
 use Rattle.answer_file.specs.Suffixes.{value_count, with_objective}
-use Rattle.shared_parts.proofs.ObjectLemmas.{for_objectives, for_others}
-use Rattle.file_meaning.specs.FoldFaults.{has_objective}
+use Rattle.nl_model.proofs.ObjectLemmas.{for_objectives, for_others}
+use Rattle.nl_model.specs.FoldFaults.{has_objective}
 use Rattle.sol_files.specs.Sol.{Sol}
 use Rattle.sol_files.specs.declared.suffix.SolSuffix.{SolSuffix}
 use Rattle.sol_files.specs.Tests.{has_index}
@@ -80,13 +82,15 @@ suffix_writable s k x small h = by (is_for_objectives x.kind) refl
       values = all;
     }
 
-    by : (b : Bool) → is_for_objectives x.kind ≡ b → IsWritableSuffix s.columns (length s.exported) (suffix_for (cond b (record { kind = x.kind; name = x.name; values = map (λ t. (k, t.1)) x.values }) x))
+    by : (b : Bool) → is_for_objectives x.kind ≡ b → IsWritableSuffix s.columns (length s.exported)
+        (suffix_for (cond b (record { kind = x.kind; name = x.name; values = map (λ t. (k, t.1)) x.values }) x))
     by true e =
         let limits = objective_limit s.columns (length s.exported) x.kind e in
         made (map (λ t. (k, t.1)) x.values) (rw limits.0 (one_value (wants_whole x.kind) k x.values small (rw limits.1 at h.values)))
     by false e = made x.values (rw (other_count s.columns (length s.exported) (objects_of x.kind) (for_others x.kind e)) h.values)
 
-pub suffixes_writable : (s : Setting) (k : ℕ) (xs : List FileSuffix) → k < 256 → AllByRecursion (IsFine s) xs → AllByRecursion (IsWritableSuffix s.columns (length s.exported)) (map suffix_for (map (with_objective k) xs))
+pub suffixes_writable : (s : Setting) (k : ℕ) (xs : List FileSuffix) → k < 256 → AllByRecursion (IsFine s) xs
+    → AllByRecursion (IsWritableSuffix s.columns (length s.exported)) (map suffix_for (map (with_objective k) xs))
 suffixes_writable s k [] small all = tt
 suffixes_writable s k (x ∷ xs) small all = (suffix_writable s k x small all.0, suffixes_writable s k xs small all.1)
 
@@ -99,7 +103,14 @@ no_table k x = refl
 pub values_counted : (k : ℕ) (xs : List FileSuffix) → sum_by (λ x. length x.values) (map suffix_for (map (with_objective k) xs)) ≡ value_count xs
 values_counted k [] = refl
 values_counted k (x ∷ xs) =
-    omega (arith, sum_by-cons (λ (y : SolSuffix). length y.values) (suffix_for (with_objective k x)) (map suffix_for (map (with_objective k) xs)), sum_by-cons (λ (y : FileSuffix). length y.values) x xs, same_count k x, values_counted k xs)
+    omega (
+      arith,
+      sum_by-cons (λ (y : SolSuffix). length y.values) (suffix_for (with_objective k x))
+          (map suffix_for (map (with_objective k) xs)),
+      sum_by-cons (λ (y : FileSuffix). length y.values) x xs,
+      same_count k x,
+      values_counted k xs,
+    )
 
 pub no_tables : (k : ℕ) (xs : List FileSuffix) → sum_by (λ x. length x.table) (map suffix_for (map (with_objective k) xs)) ≡ 0
 no_tables k [] = refl
@@ -132,7 +143,8 @@ options_of_header os c h =
 exported_count : (naming : Naming) (f : File) → IsFile f → length (setting_by naming f).exported ≡ f.counts.n_con
 exported_count naming f file = length-map f.sides _ ∙ file.side_count
 
-pub returned_rules : (f : File) (a : AnswerValue) (sol : Sol) → IsFile f → list_all has_31_bits f.options ≡ true → has_objective f a.objective ≡ true → IsAnswerFor f a → IsReturn f a sol → KeepsRules sol
+pub returned_rules : (f : File) (a : AnswerValue) (sol : Sol) → IsFile f → list_all has_31_bits f.options ≡ true
+    → has_objective f a.objective ≡ true → IsAnswerFor f a → IsReturn f a sol → KeepsRules sol
 returned_rules f a sol file bits objective for r =
     let naming = for.0 in
     let text = for.1 in

@@ -20,8 +20,12 @@ pub dual-count : (b : Bool) (f : File) (a : AnswerValue) (duals : List Dec) → 
 dual-count true f a duals h = inr h.count
 dual-count false f a duals h = inl (ap length h)
 
-pub all-given : (f : File) (a : AnswerValue) (b : Bool) (options : List ℤ) (n_con n_var : ℕ) (values : List Dec) (s0 s1 s2 s3 s4 s5 : Sol) (ds : List Dec) (message : List (List ℕ)) (objno : Option (ℤ × ℤ)) (suffixes : List SolSuffix)
-    → s0 ≡ empty_sol options n_con n_var → s1 ≡ record s0 { message = message } → s2 ≡ record s1 { duals = ds } → s3 ≡ record s2 { primals = s2.primals ++ values } → s4 ≡ record s3 { objno = objno } → s5 ≡ record s4 { suffixes = suffixes }
+pub all-given : (f : File) (a : AnswerValue) (b : Bool) (options : List ℤ) (n_con n_var : ℕ) (values : List Dec)
+    (s0 s1 s2 s3 s4 s5 : Sol) (ds : List Dec) (message : List (List ℕ)) (objno : Option (ℤ × ℤ))
+    (suffixes : List SolSuffix)
+    → s0 ≡ empty_sol options n_con n_var → s1 ≡ record s0 { message = message } → s2 ≡ record s1 { duals = ds }
+    → s3 ≡ record s2 { primals = s2.primals ++ values } → s4 ≡ record s3 { objno = objno }
+    → s5 ≡ record s4 { suffixes = suffixes }
     → n_con ≡ f.counts.n_con → AreDualsIf b f a ds → IsEmptyOrFull n_var (length values) → AreGiven s5
 all-given f a b options n_con n_var values s0 s1 s2 s3 s4 s5 ds message objno suffixes e0 e1 e2 e3 e4 e5 con duals given =
     rw (e5, e4, e3, e2, e1, e0, con) (record { duals = dual-count b f a ds duals; primals = given })

@@ -2,23 +2,23 @@
 -- is AMPL's.
 use Rattle.std.specs.Prelude.{◌≡◌, ◌⊎◌, ℕ, ◌+◌, ◌<◌, ℤ, pos, negsuc, ◌*ℤ◌, ◌≤ℤ◌, Bool, true, false, ◌&&◌, IsTrue, List, [], ◌∷◌, ◌++◌, length, map, get_or, slice_get, filter_map, Option, Some, None, is_some, IfSome, option_map, if◌then◌else◌}
 use Rattle.std.specs.List.{list_any}
-use Rattle.fractions.specs.Rational.{ℚ, whole, zero_ℚ, ◌*ℚ◌, ◌-ℚ◌}
+use Rattle.exact_numbers.specs.Rational.{ℚ, whole, zero_ℚ, ◌*ℚ◌, ◌-ℚ◌}
 use Rattle.exact_numbers.specs.declared.dec.Dec.{Dec}
 use Rattle.exact_numbers.specs.Values.{dec_value, IsInReach}
-use Rattle.program_meaning.specs.Linear.{Linear, row_at}
+use Rattle.linear_program.specs.Linear.{Linear, row_at}
 use Rattle.nl_model.specs.File.{File}
 use Rattle.nl_model.specs.declared.header_counts.Counts.{Counts}
 use Rattle.nl_model.specs.declared.suffix.Suffix.{Suffix}
-use Rattle.file_meaning.specs.Expressions.{maximises}
-use Rattle.file_meaning.specs.LinearFile.{linear_of}
+use Rattle.nl_model.specs.Expressions.{maximises}
+use Rattle.nl_model.specs.LinearFile.{linear_of}
 use Rattle.scaled_program.specs.Fits.{factor_of_row, factor_of_objective}
-use Rattle.exported_program.specs.Program.{program, tied_program, program_row}
+use Rattle.scaled_program.specs.ExportedProgram.{program, tied_program, program_row}
 use Rattle.scaled_program.specs.Program.{is_exported}
 use Rattle.scaled_program.specs.Return.{dual_of}
-use Rattle.file_meaning.specs.Meaning.{body_value}
+use Rattle.nl_model.specs.Meaning.{body_value}
 use Rattle.mps_model.specs.Mps.{Mps, row_value}
-use Rattle.scaling.specs.Scaled.{ScaledValue}
-use Rattle.scaling.specs.Scaling.{IsScaledOf, factor_at}
+use Rattle.row_scaling.specs.Scaled.{ScaledValue}
+use Rattle.row_scaling.specs.Scaling.{IsScaledOf, factor_at}
 use Rattle.answer_file.specs.Grammar.{AnswerValue}
 use Rattle.answer_file.specs.Names.{setting_by}
 use Rattle.answer_file.specs.Reading.{IsAnswer}

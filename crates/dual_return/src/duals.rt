@@ -1,11 +1,11 @@
 // Duals of the file's rows.
 ghost use Rattle.std.specs.Prelude.{◌≡◌, ◌<◌, ◌≤◌, ◌^◌, ℕ, ℤ, pos, negsuc, ◌*ℤ◌, ◌&&◌, ◌≤ℤ◌, IfSome, IfOk, IfErr, OnOk, Option, Some, None, get_or, length, if◌then◌else◌, unsigned_abs, is_some, []};
 ghost use Rattle.std.specs.List.{list_any};
-ghost use Rattle.fractions.specs.Rational.{whole, zero_ℚ, ◌*ℚ◌};
+ghost use Rattle.exact_numbers.specs.Rational.{whole, zero_ℚ, ◌*ℚ◌};
 ghost use Rattle.exact_numbers.specs.Values.{dec_value, IsInReach};
 ghost use Rattle.nl_model.specs.File.{File};
-ghost use Rattle.scaling.specs.Scaling.{IsScaledOf, factor_at};
-ghost use Rattle.texts.specs.Stopped.{IfFault};
+ghost use Rattle.row_scaling.specs.Scaling.{IsScaledOf, factor_at};
+ghost use Rattle.text_base.specs.Stopped.{IfFault};
 ghost use Rattle.dual_return.specs.Return.{IsDualAt, AreDuals, AreDualsIf, HasReturnFault, DualBy, AreFactors, sign_by, linear_for};
 
 use crate::fault::ReturnFault;
@@ -13,10 +13,10 @@ use crate::parts::add_duals;
 use answer_file::Answer;
 use exact_numbers::Dec;
 use nl_model::Decs;
-use scaling::Scaled;
+use row_scaling::Scaled;
 use sol_files::SolBuilder;
 use std::alloc::Global;
-use texts::Stop;
+use text_base::Stop;
 
 // The factor with the answer's sign.
 fn multiplier(turned: bool, factor: i128) -> i128

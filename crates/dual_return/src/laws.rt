@@ -3,7 +3,7 @@ ghost use Rattle.std.specs.Prelude.{◌≡◌, List, None, true};
 ghost use Rattle.std.specs.List.{list_all};
 ghost use Rattle.exact_numbers.specs.Numbers.{has_31_bits};
 ghost use Rattle.exact_numbers.specs.declared.dec.Dec.{Dec};
-ghost use Rattle.file_meaning.specs.FoldFaults.{fold_fault, has_objective};
+ghost use Rattle.nl_model.specs.FoldFaults.{fold_fault, has_objective};
 ghost use Rattle.nl_model.specs.File.{File};
 ghost use Rattle.nl_model.specs.Rules.{IsFile};
 ghost use Rattle.answer_file.specs.Grammar.{AnswerValue};

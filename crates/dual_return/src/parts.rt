@@ -10,7 +10,7 @@ use exact_numbers::Dec;
 use nl_model::{Decs, NlFile, Options, Suffix, Terms};
 use sol_files::{SolBuilder, SolSuffix};
 use std::alloc::{AllocError, Global};
-use texts::TextLines;
+use text_base::TextLines;
 
 // The same options.
 fn same_options(options: &Options) -> Options

@@ -1,8 +1,8 @@
 // A .sol file from an answer.
 ghost use Rattle.std.specs.Prelude.{◌≡◌, IfOk, IfErr};
-ghost use Rattle.texts.specs.Stopped.{IfFault};
+ghost use Rattle.text_base.specs.Stopped.{IfFault};
 ghost use Rattle.nl_model.specs.File.{File};
-ghost use Rattle.scaling.specs.Scaling.{IsScaledOf};
+ghost use Rattle.row_scaling.specs.Scaling.{IsScaledOf};
 ghost use Rattle.dual_return.specs.Return.{IsAnswered, IsAnswerFor, IsReturn, HasReturnFault, linear_for};
 
 use crate::duals::add_given_duals;
@@ -10,10 +10,10 @@ use crate::fault::ReturnFault;
 use crate::parts::{add_message, add_primals, add_suffixes, options_of, set_objno};
 use answer_file::Answer;
 use nl_model::{Counts, NlFile, Options};
-use scaling::Scaled;
+use row_scaling::Scaled;
 use sol_files::{Sol, SolBuilder};
 use std::alloc::Global;
-use texts::Stop;
+use text_base::Stop;
 
 /// The .sol file of an answer: duals of the file's rows, unscaled and in AMPL's sign, under the
 /// original numbers.

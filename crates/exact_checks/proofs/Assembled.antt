@@ -6,7 +6,7 @@ use Rattle.std.proofs.lemmas.List.{length-map}
 use Rattle.exact_numbers.specs.declared.dec.Dec.{Dec}
 use Rattle.exact_numbers.specs.declared.frac.Frac.{Frac}
 use Rattle.linear_program.specs.declared.kind.Kind.{Kind}
-use Rattle.program_meaning.specs.Elements.{elements_from}
+use Rattle.linear_program.specs.Elements.{elements_from}
 use Rattle.linear_program.specs.Coefs.{Term, AreAscending, AreBelow}
 use Rattle.linear_program.specs.Programs.{IsLinear, LinearValue, linear_value}
 use Rattle.exact_checks.specs.declared.form.Body.{Body}
@@ -19,12 +19,15 @@ use Rattle.exact_checks.proofs.Copied.{are_terms, copy_is, rows_are, rows_count,
 use Rattle.exact_checks.proofs.Transposed.{columns_same, columns_terms}
 
 -- the terms of a copied objective
-pub objective_within : (l : LinearValue) (objective : Body) (bounds : ℕ) → IsLinear l → IsCopy l.objective objective → AreAscending 0 objective.terms → bounds ≡ length l.bounds → AreTerms 0 bounds objective.terms
+pub objective_within : (l : LinearValue) (objective : Body) (bounds : ℕ) → IsLinear l → IsCopy l.objective objective
+    → AreAscending 0 objective.terms → bounds ≡ length l.bounds → AreTerms 0 bounds objective.terms
 objective_within l objective bounds folded copy up e =
     subst (λ n. AreTerms 0 n objective.terms) (sym e)
     (are_terms 0 (length l.bounds) objective.terms up (subst (AreBelow (length l.bounds)) (sym copy.terms) folded.objective))
 
-module _ (l : LinearValue) (folded : IsLinear l) (rows : List Row) (objective : Body) (lower upper : List (Option Dec)) (copies : AreRowsOf l.bodies l.sides rows) (within : AreWithin (length l.bounds) rows) (copy : IsCopy l.objective objective)
+module _ (l : LinearValue) (folded : IsLinear l) (rows : List Row) (objective : Body) (lower upper : List (Option Dec))
+    (copies : AreRowsOf l.bodies l.sides rows) (within : AreWithin (length l.bounds) rows)
+    (copy : IsCopy l.objective objective)
     (up : AreAscending 0 objective.terms) (lows : lower ≡ map (λ b. b.lo) l.bounds) (highs : upper ≡ map (λ b. b.hi) l.bounds) where
   lower_count : length lower ≡ length l.bounds
   lower_count = ap length lows ∙ length-map l.bounds (λ b. b.lo)
@@ -63,7 +66,9 @@ module _ (l : LinearValue) (folded : IsLinear l) (rows : List Row) (objective : 
         maximise = sense q;
       }
 
-pub columns_are : (n : ℕ) (rows : List Row) (columns : List (Vec Term)) (costs : List Frac) (objective : Body) → AreSound n rows objective → AreColumnsOf n rows columns → AreCostsOf n objective.terms costs → AreTransposed rows columns costs objective
+pub columns_are : (n : ℕ) (rows : List Row) (columns : List (Vec Term)) (costs : List Frac) (objective : Body)
+    → AreSound n rows objective → AreColumnsOf n rows columns → AreCostsOf n objective.terms costs
+    → AreTransposed rows columns costs objective
 columns_are n rows columns costs objective sound by_column priced =
     record {
       columns_terms = columns_terms n rows columns sound.rows_terms by_column;

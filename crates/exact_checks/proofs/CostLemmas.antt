@@ -3,13 +3,13 @@ use Rattle.std.proofs.Common.{◌≡◌, ◌≢◌, ℕ, ◌∙◌, sym, ap, ap�
 use mathlib.Core.Bool.{beq}
 use Rattle.std.specs.Prelude.{if◌then◌else◌, option_and_then, is_some}
 use Rattle.std.specs.Option.{option_map}
-use Rattle.fractions.specs.Fits.{fits, sum_fits}
-use Rattle.fractions.specs.Functions.{is_zero}
-use Rattle.fractions.specs.Rational.{ℚ, whole, zero_ℚ, ◌+ℚ◌, ◌-ℚ◌, ◌*ℚ◌, neg_ℚ}
-use Rattle.fractions.proofs.Arithmetic.{+ℚ_zero, *ℚ_zero, -ℚ_lem, neg-neg, neg-*ℚ, top_zero, not-is_zero}
-use Rattle.program_meaning.specs.Linear.{Interval}
-use Rattle.duality.specs.Checked.{fitting, fitting_difference, fitting_sum, less_product, plus_product}
-use Rattle.duality.specs.Verdict.{bound_side_missing, cost_check, cost_part_of, needed_side}
+use Rattle.exact_numbers.specs.Fits.{fits, sum_fits}
+use Rattle.exact_numbers.specs.Functions.{is_zero}
+use Rattle.exact_numbers.specs.Rational.{ℚ, whole, zero_ℚ, ◌+ℚ◌, ◌-ℚ◌, ◌*ℚ◌, neg_ℚ}
+use Rattle.exact_numbers.proofs.RationalLaws.{+ℚ_zero, *ℚ_zero, -ℚ_lem, neg-neg, neg-*ℚ, top_zero, not-is_zero}
+use Rattle.linear_program.specs.Linear.{Interval}
+use Rattle.certificates.specs.Checked.{fitting, fitting_difference, fitting_sum, less_product, plus_product}
+use Rattle.certificates.specs.Verdict.{bound_side_missing, cost_check, cost_part_of, needed_side}
 use Rattle.exact_numbers.proofs.Bridge.{frac_fits_lem}
 use Rattle.exact_numbers.proofs.Zeros.{fits_zero, sum_fits_zero}
 use Rattle.exact_numbers.specs.declared.dec.Dec.{Dec}
@@ -45,7 +45,10 @@ needs_upper max negative t i e h = absurd (cc)
 pub short_is_short : (l : ShortFraction) → IsShort (short_value l)
 short_is_short l = short_over l.num l.den l.size l.small
 
-pub less_found : (r : Option ShortFraction) (s w f p : ShortFraction) (old weight : Option ℚ) (a : ℚ) → old ≡ Some (short_value s) → weight ≡ Some (short_value w) → short_value f ≡ a → short_value p ≡ short_value w *ℚ short_value f → IfSome r (λ l. short_value l ≡ short_value s -ℚ short_value p) → IfSome r (λ l. Some (short_value l) ≡ less_part weight a old)
+pub less_found : (r : Option ShortFraction) (s w f p : ShortFraction) (old weight : Option ℚ) (a : ℚ)
+    → old ≡ Some (short_value s) → weight ≡ Some (short_value w) → short_value f ≡ a
+    → short_value p ≡ short_value w *ℚ short_value f → IfSome r (λ l. short_value l ≡ short_value s -ℚ short_value p)
+    → IfSome r (λ l. Some (short_value l) ≡ less_part weight a old)
 less_found None s w f p old weight a x y z q h = tt
 less_found (Some l) s w f p old weight a x y z q h =
     ap Some h
@@ -72,7 +75,8 @@ plus_is_less s d v =
     by false p = refl
 
 -- the sum with a product, in short parts
-pub short_plus : (r : Option ShortFraction) (s f v n p : ShortFraction) → short_value n ≡ neg_ℚ (short_value f) → short_value p ≡ short_value n *ℚ short_value v → IfSome r (λ l. short_value l ≡ short_value s -ℚ short_value p)
+pub short_plus : (r : Option ShortFraction) (s f v n p : ShortFraction) → short_value n ≡ neg_ℚ (short_value f)
+    → short_value p ≡ short_value n *ℚ short_value v → IfSome r (λ l. short_value l ≡ short_value s -ℚ short_value p)
     → IfSome r (λ l. plus_product (short_value s) (short_value f) (short_value v) ≡ Some (short_value l))
 short_plus None s f v n p x y h = tt
 short_plus (Some l) s f v n p x y h =
@@ -84,7 +88,9 @@ not_equal : (d : ℚ) → Some d ≢ Some zero_ℚ → d ≢ zero_ℚ
 not_equal d n e = n (ap Some e)
 
 -- the part of a cost that is not 0
-part_of : (max : Bool) (i : Interval) (s d : ℚ) (o : Option ℚ) → Some d ≢ Some zero_ℚ → o ≡ option_and_then fitting (needed_side max d.top i) → cost_part_of max i s d ≡ option_and_then (λ x. plus_product s d x) o
+part_of : (max : Bool) (i : Interval) (s d : ℚ) (o : Option ℚ) → Some d ≢ Some zero_ℚ
+    → o ≡ option_and_then fitting (needed_side max d.top i) → cost_part_of max i s d
+    ≡ option_and_then (λ x. plus_product s d x) o
 part_of max i s d o n e =
     ap (λ b. if b then Some s else option_and_then (λ x. plus_product s d x) (option_and_then fitting (needed_side max d.top i))) (not-is_zero d (not_equal d n))
     ∙ sym (ap (option_and_then (λ x. plus_product s d x)) e)
@@ -154,7 +160,8 @@ value_without_fault max i j None h = absurd (cc)
 value_without_fault max i j (Some d) h = (d, refl)
 
 -- a sum to which nothing is added
-pub part_unchanged : (max : Bool) (i : Interval) (j : ℕ) (sum : RunningSum) (cost : Option ℚ) → None ≡ cost_check max i j cost → ((s d : ℚ) → fits s ≡ true → cost ≡ Some d → cost_part_of max i s d ≡ Some s)
+pub part_unchanged : (max : Bool) (i : Interval) (j : ℕ) (sum : RunningSum) (cost : Option ℚ)
+    → None ≡ cost_check max i j cost → ((s d : ℚ) → fits s ≡ true → cost ≡ Some d → cost_part_of max i s d ≡ Some s)
     → sum_value sum ≡ option_and_then (λ s. option_and_then (cost_part_of max i s) cost) (sum_value sum)
 part_unchanged max i j sum cost none h = let v = value_without_fault max i j cost none in by (sum_value sum) refl v.0 v.1
   where

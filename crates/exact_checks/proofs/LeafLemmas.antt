@@ -2,13 +2,16 @@
 use Rattle.std.proofs.Common.{◌≡◌, ℕ, ◌+◌, ◌∙◌, sym, ap, ap₂, subst, refl, List, [], length, Bool, true, false, Option, Some, None}
 use Rattle.std.specs.Prelude.{if◌then◌else◌}
 use Rattle.std.specs.Option.{option_or}
-use Rattle.fractions.specs.Fits.{fits}
-use Rattle.fractions.specs.Rational.{ℚ, zero_ℚ}
-use Rattle.program_meaning.specs.Linear.{Form, Interval, Linear, row_count, value_at, variable_count}
-use Rattle.duality.specs.Checked.{run}
-use Rattle.duality.specs.Parts.{maximising}
-use Rattle.duality.specs.Points.{Box, Numbers}
-use Rattle.duality.specs.Verdict.{Fault as Cause, BoundVerdict as Answer, at_cost, bound_side_missing, bound_or_fault, bound_total, no_bound, cost_check, cost_fault, dual_bound, dual_fault, first_fault, has_needed, IsDualFault, reduced_cost, row_part, side_fault, too_wide}
+use Rattle.exact_numbers.specs.Fits.{fits}
+use Rattle.exact_numbers.specs.Rational.{ℚ, zero_ℚ}
+use Rattle.linear_program.specs.Linear.{Form, Interval, Linear, row_count, value_at, variable_count}
+use Rattle.certificates.specs.Checked.{run}
+use Rattle.certificates.specs.Parts.{maximising}
+use Rattle.certificates.specs.Points.{Box, Numbers}
+use Rattle.certificates.specs.Verdict.{Fault as Cause, BoundVerdict as Answer, at_cost, bound_side_missing}
+use Rattle.certificates.specs.Verdict.{bound_or_fault, bound_total, no_bound, cost_check, cost_fault, dual_bound}
+use Rattle.certificates.specs.Verdict.{dual_fault, first_fault, has_needed, IsDualFault, reduced_cost, row_part}
+use Rattle.certificates.specs.Verdict.{side_fault, too_wide}
 use Rattle.linear_program.specs.Coefs.{Term, coef_in}
 use Rattle.linear_program.specs.Numbers.{Pair, spread}
 use Rattle.linear_program.proofs.FracLemmas.{coef_fits}
@@ -32,9 +35,12 @@ cost_fault_kind max i j None v h = let e : too_wide (at_cost j) ≡ v = cc in su
 cost_fault_kind max i j (Some d) v h = if_fault (has_needed max d i) (bound_side_missing j) v tt h
 
 -- ---- the bound
-bound_by_reduced : (f : Linear) (box : Box) (ys : List ℚ) → first_fault (side_fault f (value_at ys)) (row_count f) ≡ None → dual_bound f box ys ≡ bound_by f box (value_at ys) (λ j. reduced_cost f (value_at ys) j) (variable_count f)
+bound_by_reduced : (f : Linear) (box : Box) (ys : List ℚ) → first_fault (side_fault f (value_at ys)) (row_count f)
+    ≡ None → dual_bound f box ys ≡ bound_by f box (value_at ys) (λ j. reduced_cost f (value_at ys) j) (variable_count f)
 unfolding dual_bound dual_fault cost_fault bound_total
-bound_by_reduced f box ys none = ap (λ o. bound_or_fault (option_or o (first_fault (λ j. cost_check f.maximise (box j) j (reduced_cost f (value_at ys) j)) (variable_count f))) (bound_total f box (value_at ys))) none
+bound_by_reduced f box ys none = ap (λ o. bound_or_fault (option_or o
+    (first_fault (λ j. cost_check f.maximise (box j) j (reduced_cost f (value_at ys) j)) (variable_count f)))
+    (bound_total f box (value_at ys))) none
 
 pub by_parts : (f : Linear) (box : Box) (y : Numbers) (costs : ℕ → Option ℚ) (n : ℕ) (max : Bool) (constant : ℚ) (start : Option ℚ) (v : Answer) → f.maximise ≡ max → f.objective.constant ≡ constant
     → start ≡ run (row_part f y) constant (row_count f) → v ≡ bound_from max box costs n start → v ≡ bound_by f box y costs n
@@ -44,7 +50,9 @@ pub side_lacks : (f : Linear) (box : Box) (ys : List ℚ) (g : Cause) → Some g
 unfolding dual_bound dual_fault
 side_lacks f box ys g e = ap (λ o. bound_or_fault (option_or o (first_fault (cost_fault f box (value_at ys)) (variable_count f))) (bound_total f box (value_at ys))) e
 
-pub bound_is : (c : Program) (planes : List Row) (f : Linear) (held : HasRows c planes f) (max : Bool) (constant : ℚ) (terms : List Term) (goal : IsGoal max constant terms f) (box : Box) (ps : List Pair) (start costs : ℕ → Option ℚ) (n : ℕ) (v : Answer)
+pub bound_is : (c : Program) (planes : List Row) (f : Linear) (held : HasRows c planes f) (max : Bool) (constant : ℚ)
+    (terms : List Term) (goal : IsGoal max constant terms f) (box : Box) (ps : List Pair) (start costs : ℕ → Option ℚ)
+    (n : ℕ) (v : Answer)
     → AreIndices 0 (length c.rows.items + length planes) ps
     → None ≡ first_fault (side_fault f (value_at (spread (row_count f) ps))) (row_count f)
     → ((j : ℕ) → start j ≡ Some (coef_in terms j))

@@ -5,7 +5,6 @@ pub mod FormPoints
 pub mod Firsts
 pub mod Runs
 pub mod Rows
-pub mod Certificates
 pub mod Transposed
 pub mod Priced
 pub mod Copied

@@ -8,13 +8,13 @@ use Rattle.std.specs.Ordering.{int_cmp, is_le, MatchOrdering}
 use Rattle.std.specs.declared.cmp.Ordering.{Ordering}
 use Rattle.std.specs.declared.cmp.Ordering.TheVariants.{Less, Equal, Greater}
 use Rattle.std.proofs.lemmas.Int.{ints}
-use Rattle.fractions.specs.Rational.{ℚ, whole, zero_ℚ, ◌<ℚ◌}
-use Rattle.fractions.proofs.Arithmetic.{zero-is_zero}
+use Rattle.exact_numbers.specs.Rational.{ℚ, whole, zero_ℚ, ◌<ℚ◌}
+use Rattle.exact_numbers.proofs.RationalLaws.{zero-is_zero}
 use Rattle.exact_numbers.specs.declared.frac.Frac.{Frac}
 use Rattle.exact_numbers.specs.Values.{frac_value, order_of}
-use Rattle.duality.specs.Checked.{is_at_most}
-use Rattle.fractions.specs.Functions.{is_zero}
-use Rattle.fractions.proofs.Tests.{is_zero-true}
+use Rattle.certificates.specs.Checked.{is_at_most}
+use Rattle.exact_numbers.specs.Functions.{is_zero}
+use Rattle.exact_numbers.proofs.Tests.{is_zero-true}
 use Rattle.exact_checks.specs.Terms.{value_found}
 
 -- a value where a test holds, and none where it does not

@@ -4,11 +4,11 @@ use Rattle.std.proofs.Common.{◌≡◌, ◌≢◌, ℕ, zero, suc, ◌+◌, ◌
 use Rattle.std.specs.Prelude.{if◌then◌else◌, option_and_then}
 use Rattle.std.specs.Option.{option_or}
 use Rattle.std.proofs.lemmas.Bool.{cases_lt, eq-eqb, ne_eqb}
-use Rattle.fractions.specs.Rational.{ℚ, zero_ℚ}
-use Rattle.program_meaning.specs.Linear.{value_at}
-use Rattle.duality.specs.Checked.{run}
-use Rattle.duality.specs.Verdict.{first_fault}
-use Rattle.program_meaning.proofs.Elements.{elements_at}
+use Rattle.exact_numbers.specs.Rational.{ℚ, zero_ℚ}
+use Rattle.linear_program.specs.Linear.{value_at}
+use Rattle.certificates.specs.Checked.{run}
+use Rattle.certificates.specs.Verdict.{first_fault}
+use Rattle.linear_program.proofs.Elements.{elements_at}
 use Rattle.linear_program.specs.Numbers.{Pair, number_of, spread, number_value}
 use Rattle.linear_program.proofs.ListLemmas.{rest_of}
 use Rattle.exact_checks.specs.Leaves.{AreIndices, run_pairs}
@@ -88,7 +88,9 @@ module _ (step : ℚ → ℕ → ℚ → Option ℚ) (good : ℚ → Type 0) (at
   good_step i v None g s e = absurd (cc)
   good_step i v (Some t) g s e = at_zero.kept t s i v (g t refl) e
 
-  pub paired : (from n : ℕ) (ps : List Pair) → AreIndices from n ps → from ≤ n → ((i : ℕ) → from ≤ i → i < n → y i ≡ number_of ps i zero_ℚ) → IsGood (reached from) → reached n ≡ run_pairs step (reached from) ps
+  pub paired : (from n : ℕ) (ps : List Pair) → AreIndices from n ps → from ≤ n
+      → ((i : ℕ) → from ≤ i → i < n → y i ≡ number_of ps i zero_ℚ) → IsGood (reached from)
+      → reached n ≡ run_pairs step (reached from) ps
   unfolding AreIndices number_of
   paired from n [] ok l same g = stays from n l same g
   paired from n (p ∷ ps) ok l same g =
@@ -121,11 +123,14 @@ module _ {V : Type 0} (act : ℕ → ℚ → Option V) (still : (i : ℕ) → ac
   none_between from (suc to) l h =
       ⊎_elim
       (λ (a : from < suc to).
-      ap (option_or (first_fault fault_of to)) (ap (act to) (h to (omega arith) (omega arith)) ∙ still to) ∙ or_none (first_fault fault_of to) ∙ none_between from to (omega arith) (λ i p q. h i p (omega arith)))
+      ap (option_or (first_fault fault_of to)) (ap (act to) (h to (omega arith) (omega arith)) ∙ still to)
+      ∙ or_none (first_fault fault_of to) ∙ none_between from to (omega arith) (λ i p q. h i p (omega arith)))
       (λ (b : suc to ≤ from). let same : suc to ≡ from = omega arith in ap (first_fault fault_of) same)
       (cases_lt from (suc to))
 
-  first_paired : (from n : ℕ) (ps : List Pair) → AreIndices from n ps → from ≤ n → ((i : ℕ) → from ≤ i → i < n → y i ≡ number_of ps i zero_ℚ) → first_fault fault_of n ≡ option_or (first_fault fault_of from) (first_in act ps)
+  first_paired : (from n : ℕ) (ps : List Pair) → AreIndices from n ps → from ≤ n
+      → ((i : ℕ) → from ≤ i → i < n → y i ≡ number_of ps i zero_ℚ)
+      → first_fault fault_of n ≡ option_or (first_fault fault_of from) (first_in act ps)
   unfolding AreIndices number_of first_fault
   first_paired from n [] ok l same = none_between from n l same ∙ sym (or_none (first_fault fault_of from))
   first_paired from n (p ∷ ps) ok l same =

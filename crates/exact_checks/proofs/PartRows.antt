@@ -1,15 +1,17 @@
 -- The rows of a part, and loops over the numbers of a leaf.
-use Rattle.std.proofs.Common.{◌≡◌, ℕ, zero, suc, ◌+◌, ◌<◌, ◌≤◌, ◌⊎◌, inl, inr, ◌∙◌, sym, ap, ap₂, subst, refl, ⊎_elim, List, [], ◌∷◌, ◌++◌, length, length-append, drop, get_or, Bool, true, false, Option, Some, None}
+use Rattle.std.proofs.Common.{◌≡◌, ℕ, zero, suc, ◌+◌, ◌<◌, ◌≤◌, ◌⊎◌, inl, inr, ◌∙◌, sym, ap, ap₂, subst, refl, ⊎_elim}
+use Rattle.std.proofs.Common.{List, [], ◌∷◌, ◌++◌, length, length-append, drop, get_or, Bool, true, false, Option, Some}
+use Rattle.std.proofs.Common.{None}
 use Rattle.std.specs.Prelude.{if◌then◌else◌, option_and_then, slice_get}
 use Rattle.std.specs.Option.{option_or}
 use Rattle.std.proofs.lemmas.List.{drop_all}
-use Rattle.fractions.specs.Fits.{fits}
-use Rattle.fractions.specs.Functions.{is_zero}
-use Rattle.fractions.specs.Rational.{ℚ, whole, zero_ℚ}
-use Rattle.program_meaning.specs.Linear.{Form, Linear, row_at, row_count, value_at}
-use Rattle.duality.specs.Checked.{fitting, less_product, run}
-use Rattle.duality.specs.Points.{Numbers}
-use Rattle.duality.specs.Verdict.{Fault as Cause, first_fault, has_needed, reduced_cost, row_part, row_part_of, row_side_missing, side_fault}
+use Rattle.exact_numbers.specs.Fits.{fits}
+use Rattle.exact_numbers.specs.Functions.{is_zero}
+use Rattle.exact_numbers.specs.Rational.{ℚ, whole, zero_ℚ}
+use Rattle.linear_program.specs.Linear.{Form, Linear, row_at, row_count, value_at}
+use Rattle.certificates.specs.Checked.{fitting, less_product, run}
+use Rattle.certificates.specs.Points.{Numbers}
+use Rattle.certificates.specs.Verdict.{Fault as Cause, first_fault, has_needed, reduced_cost, row_part, row_part_of, row_side_missing, side_fault}
 use Rattle.exact_numbers.specs.Values.{frac_value}
 use Rattle.exact_numbers.proofs.Zeros.{fits_zero}
 use Rattle.linear_program.specs.Intervals.{interval_of}
@@ -32,7 +34,8 @@ append_cases [] ys i x h = inr (i, h)
 append_cases (z ∷ xs) ys zero x h = inl h
 append_cases (z ∷ xs) ys (suc i) x h = append_cases xs ys i x h
 
-pub terms_of_row : (c : Program) (planes : List Row) (i : ℕ) (r : Row) → AreWithin (length c.lower.items) planes → slice_get (c.rows.items ++ planes) i ≡ Some r → AreTerms 0 (length c.lower.items) r.body.terms
+pub terms_of_row : (c : Program) (planes : List Row) (i : ℕ) (r : Row) → AreWithin (length c.lower.items) planes
+    → slice_get (c.rows.items ++ planes) i ≡ Some r → AreTerms 0 (length c.lower.items) r.body.terms
 terms_of_row c planes i r fine at =
     ⊎_elim
     (λ (a : slice_get c.rows.items i ≡ Some r). c.sound.rows_terms i r a)
@@ -129,7 +132,9 @@ module _ (c : Program) (planes : List Row) (max : Bool) (ps : List Pair) where
       sides_within = pair_within (length c.rows.items + length planes) ps k on.from on.fine p l is
 
       module _ (r : Row) (at : slice_get (c.rows.items ++ planes) p.0 ≡ Some r) (b : Bool) (e : b ≡ has_needed max (number_value p.1) (interval_of r.side)) where
-        side_first : (f : Linear) → HasRows c planes f → f.maximise ≡ max → first_fault (side_fault f (value_at (spread (row_count f) ps))) (row_count f) ≡ option_or (if b then None else Some (row_side_missing p.0)) (first_in (side_act f) (drop (k + 1) ps))
+        side_first : (f : Linear) → HasRows c planes f → f.maximise ≡ max
+            → first_fault (side_fault f (value_at (spread (row_count f) ps))) (row_count f)
+            ≡ option_or (if b then None else Some (row_side_missing p.0)) (first_in (side_act f) (drop (k + 1) ps))
         side_first f held sense =
             on.rest f held sense
             ∙ ap (first_in (side_act f)) (rest_of ps k p l is)

@@ -3,12 +3,12 @@ use Rattle.std.proofs.Common.{◌≡◌, ℕ, ◌+◌, ◌<◌, ◌≤◌, ◌�
 use Rattle.std.specs.Prelude.{option_and_then}
 use Rattle.std.proofs.lemmas.List.{length-map}
 use Rattle.std.proofs.lemmas.Option.{slice_get-get_or, slice_get-map, get_or_from_slice_get}
-use Rattle.fractions.specs.Rational.{ℚ, zero_ℚ}
-use Rattle.program_meaning.specs.Linear.{value_at}
+use Rattle.exact_numbers.specs.Rational.{ℚ, zero_ℚ}
+use Rattle.linear_program.specs.Linear.{value_at}
 use Rattle.exact_numbers.specs.declared.dec.Dec.{Dec}
 use Rattle.exact_numbers.specs.Values.{dec_value, frac_value}
-use Rattle.duality.specs.Checked.{fitting, plus_product, less_product, run}
-use Rattle.duality.specs.Verdict.{run_form}
+use Rattle.certificates.specs.Checked.{fitting, plus_product, less_product, run}
+use Rattle.certificates.specs.Verdict.{run_form}
 use Rattle.linear_program.specs.Coefs.{Term, coef_in}
 use Rattle.exact_checks.specs.declared.form.Body.{Body}
 use Rattle.exact_checks.specs.Terms.{AreTerms, values_of}
@@ -56,7 +56,8 @@ column_begins cost ts xs ok =
     subst (λ n. OnTheWay (acting taking (point_of xs)) (length xs) (run (column_step ts (values_of xs)) cost n) ts 0 cost) (sym (count_of_values xs))
     (way_begins (acting taking (point_of xs)) (length xs) (coef_in ts) cost ts ok (λ j l. refl))
 
-module _ (act : ℚ → ℚ → ℚ → Option ℚ) (answer : Option ℚ) (terms items : List Term) (xs : List Dec) (same : items ≡ terms) (k : ℕ) (s : ℚ) (on : OnTheWay (acting act (point_of xs)) (length xs) answer terms k s) where
+module _ (act : ℚ → ℚ → ℚ → Option ℚ) (answer : Option ℚ) (terms items : List Term) (xs : List Dec)
+    (same : items ≡ terms) (k : ℕ) (s : ℚ) (on : OnTheWay (acting act (point_of xs)) (length xs) answer terms k s) where
   pub terms_end : length items ≤ k → Some s ≡ answer
   terms_end l = sym (way_ends _ _ _ _ k s on (subst (λ ts. length ts ≤ k) same l))
 

@@ -6,19 +6,21 @@ use Rattle.std.specs.Option.{option_map_or}
 use Rattle.std.proofs.lemmas.Bool.{cases_lt}
 use Rattle.std.proofs.lemmas.List.{get_or_past}
 use Rattle.std.proofs.lemmas.Option.{slice_get-get_or, slice_get_past, slice_get_within}
-use Rattle.fractions.specs.Rational.{ℚ}
-use Rattle.program_meaning.specs.Linear.{Form, Interval, Row as LinearRow, Variable, Linear, unbounded, variable_at, variable_count, no_variable}
-use Rattle.duality.specs.Checked.{fitting, less_product, run}
-use Rattle.duality.specs.Points.{Numbers, Box, bounds_of}
-use Rattle.program_meaning.specs.Linear.{zero_form, no_row, row_count, row_at}
-use Rattle.duality.specs.Verdict.{has_needed, row_side_missing, side_fault, cost_step, reduced_cost, cost_check, cost_fault, row_part_of, row_part, cost_part_of, cost_part, Fault as Cause, bound_broken, row_check, row_fault, bound_fault, run_form, is_inside}
-use Rattle.fractions.specs.Functions.{is_zero}
+use Rattle.exact_numbers.specs.Rational.{ℚ}
+use Rattle.linear_program.specs.Linear.{Form, Interval, Row as LinearRow, Variable, Linear, unbounded, variable_at, variable_count, no_variable}
+use Rattle.certificates.specs.Checked.{fitting, less_product, run}
+use Rattle.certificates.specs.Points.{Numbers, Box, bounds_of}
+use Rattle.linear_program.specs.Linear.{zero_form, no_row, row_count, row_at}
+use Rattle.certificates.specs.Verdict.{has_needed, row_side_missing, side_fault, cost_step, reduced_cost, cost_check}
+use Rattle.certificates.specs.Verdict.{cost_fault, row_part_of, row_part, cost_part_of, cost_part, Fault as Cause}
+use Rattle.certificates.specs.Verdict.{bound_broken, row_check, row_fault, bound_fault, run_form, is_inside}
+use Rattle.exact_numbers.specs.Functions.{is_zero}
 use Rattle.exact_numbers.specs.declared.dec.Dec.{Dec}
 use Rattle.exact_numbers.specs.declared.frac.Frac.{Frac}
 use Rattle.exact_numbers.specs.Values.{dec_value, frac_value}
-use Rattle.program_meaning.specs.Elements.{elements_from}
+use Rattle.linear_program.specs.Elements.{elements_from}
 use Rattle.linear_program.specs.Intervals.{interval_of, is_whole_kind}
-use Rattle.program_meaning.proofs.Elements.{elements_at, elements_length}
+use Rattle.linear_program.proofs.Elements.{elements_at, elements_length}
 use Rattle.linear_program.specs.declared.kind.Kind.TheVariants.{Continuous}
 use Rattle.linear_program.specs.Coefs.{Term, coef_in}
 use Rattle.exact_checks.specs.declared.form.Row.{Row}
@@ -101,7 +103,8 @@ side_at_index xs j o h = ap (λ v. option_map_or side_value v None) h
 pub side_read : (xs : List (Option Dec)) (j : ℕ) (o : Option Dec) → j < length xs → o ≡ get_or xs j o → side_value o ≡ side_listed xs j
 side_read xs j o l e = sym (side_at_index xs j o (slice_get-get_or xs j o l ∙ ap Some (sym e)))
 
-pub bounds_read : (lo hi : List (Option Dec)) (j : ℕ) (a b : Option Dec) → j < length lo → a ≡ get_or lo j a → j < length hi → b ≡ get_or hi j b → interval_of (record { lo = a; hi = b }) ≡ bounds_in lo hi j
+pub bounds_read : (lo hi : List (Option Dec)) (j : ℕ) (a b : Option Dec) → j < length lo → a ≡ get_or lo j a
+    → j < length hi → b ≡ get_or hi j b → interval_of (record { lo = a; hi = b }) ≡ bounds_in lo hi j
 bounds_read lo hi j a b l e k f = ap₂ (λ v w. record { lower = v; upper = w }) (side_read lo j a l e) (side_read hi j b k f)
 
 -- ---- the rows at a point
@@ -109,7 +112,8 @@ module _ (c : Program) (xs : List Dec) (len : length xs ≡ length c.lower.items
   pub row_terms : AreTerms 0 (length xs) r.body.terms
   row_terms = subst (λ n. AreTerms 0 n r.body.terms) (sym len) (c.sound.rows_terms i r at)
 
-  pub row_fault_is : (o : Option ℚ) (f : Option Cause) → o ≡ run_form (length xs) (form_of r.body) (point_of xs) → f ≡ row_check i (interval_of r.side) o → f ≡ row_fault (program_value c) (point_of xs) i
+  pub row_fault_is : (o : Option ℚ) (f : Option Cause) → o ≡ run_form (length xs) (form_of r.body) (point_of xs)
+      → f ≡ row_check i (interval_of r.side) o → f ≡ row_fault (program_value c) (point_of xs) i
   unfolding row_fault
   row_fault_is o f e h =
       h
@@ -117,14 +121,18 @@ module _ (c : Program) (xs : List Dec) (len : length xs ≡ length c.lower.items
       (e ∙ ap₂ (λ n b. run_form n b (point_of xs)) (len ∙ sym (variables_counted c)) (sym (body_here c i r at)))
 
 module _ (c : Program) (xs : List Dec) (len : length xs ≡ length c.lower.items) (j : ℕ) (d : Dec) (l : j < length xs) (is : d ≡ get_or xs j d) where
-  pub bound_fault_is : (i : Interval) (b : Bool) → i ≡ bounds_in c.lower.items c.upper.items j → b ≡ is_inside (dec_value d) i → (if b then None else Some (bound_broken j)) ≡ bound_fault (program_value c) (point_of xs) j
+  pub bound_fault_is : (i : Interval) (b : Bool) → i ≡ bounds_in c.lower.items c.upper.items j
+      → b ≡ is_inside (dec_value d) i → (if b then None else Some (bound_broken j))
+      ≡ bound_fault (program_value c) (point_of xs) j
   unfolding bound_fault
   bound_fault_is i b h e =
       ap (λ t. if t then None else Some (bound_broken j))
       (e ∙ ap₂ is_inside (sym (point_at xs j d l is)) (h ∙ sym (bound_here c j (subst (λ n. j < n) len l))))
 
 -- ---- the duals
-module _ (c : Program) (goal : Goal) (max : Bool) (same_sense : max ≡ (asked goal (program_value c)).maximise) (ys : List Dec) (i : ℕ) (r : Row) (at : slice_get c.rows.items i ≡ Some r) (d : Dec) (l : i < length ys) (is : d ≡ get_or ys i d) where
+module _ (c : Program) (goal : Goal) (max : Bool) (same_sense : max ≡ (asked goal (program_value c)).maximise)
+    (ys : List Dec) (i : ℕ) (r : Row) (at : slice_get c.rows.items i ≡ Some r) (d : Dec) (l : i < length ys)
+    (is : d ≡ get_or ys i d) where
   pub side_fault_is : (b : Bool) → b ≡ has_needed max (dec_value d) (interval_of r.side) → (if b then None else Some (row_side_missing i)) ≡ side_fault (asked goal (program_value c)) (point_of ys) i
   side_fault_is b e =
       ap (λ t. if t then None else Some (row_side_missing i))
@@ -146,7 +154,8 @@ and_then_alike f g (Some s) h = h s
 run_same : (f g : ℚ → ℕ → Option ℚ) (start : ℚ) (n : ℕ) → ((s : ℚ) (i : ℕ) → i < n → f s i ≡ g s i) → run f start n ≡ run g start n
 unfolding run
 run_same f g start zero h = refl
-run_same f g start (suc n) h = and_then_alike (λ s. f s n) (λ s. g s n) (run f start n) (λ s. h s n (omega arith)) ∙ ap (option_and_then (λ s. g s n)) (run_same f g start n (λ s i l. h s i (omega arith)))
+run_same f g start (suc n) h = and_then_alike (λ s. f s n) (λ s. g s n) (run f start n) (λ s. h s n (omega arith))
+    ∙ ap (option_and_then (λ s. g s n)) (run_same f g start n (λ s i l. h s i (omega arith)))
 
 -- the coefficient of a variable in the goal
 cost_is : (c : Columns) (goal : Goal) (j : ℕ) (v : Frac) → slice_get c.costs.items j ≡ Some v → goal_cost goal v ≡ (goal_form goal (form_of c.program.objective)).coefficient j
@@ -174,7 +183,8 @@ module _ (c : Columns) (goal : Goal) (ys : List Dec) (len : length ys ≡ length
     unfolding column_cost reduced_cost
     column_cost_is =
         run_same (column_step k.items (values_of ys)) (cost_step (asked goal (program_of c)) (point_of ys) j) start (length (values_of ys))
-        (λ s i l. ap (λ a. if is_zero a then Some s else option_and_then (λ v. less_product s v a) (fitting (point_of ys i))) (coefficient_is c i j k at (subst (λ n. i < n) (count_of_values ys ∙ len) l)))
+        (λ s i l. ap (λ a. if is_zero a then Some s else option_and_then (λ v. less_product s v a)
+        (fitting (point_of ys i))) (coefficient_is c i j k at (subst (λ n. i < n) (count_of_values ys ∙ len) l)))
         ∙ ap₂ (λ a n. run (cost_step (asked goal (program_of c)) (point_of ys) j) a n) cost_start (count_of_values ys ∙ len ∙ sym (rows_counted c.program))
 
 -- ---- the bounds against the reduced costs

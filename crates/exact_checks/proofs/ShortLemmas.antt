@@ -1,5 +1,8 @@
 -- Short fractions: what fits, and what comes of products and differences.
-use Rattle.std.proofs.Common.{◌≡◌, ℕ, zero, suc, ◌*◌, ◌/◌, ◌<◌, ◌≤◌, ◌^◌, ◌∙◌, sym, ap, ap₂, refl, subst, arith, lit≤, lt_of_le_of_lt, lt_of_lt_of_le, div-le_self, mul-pos, Bool, true, false, T, ℤ, ◌<ℤ◌, ◌≤ℤ◌, pos, negsuc, ◌+ℤ◌, ◌*ℤ◌, ◌-ℤ◌, neg_ℤ, unsigned_abs, int_lt, Option, Some, None, ⊎_elim, ◌↔◌}
+use Rattle.std.proofs.Common.{◌≡◌, ℕ, zero, suc, ◌*◌, ◌/◌, ◌<◌, ◌≤◌, ◌^◌, ◌∙◌, sym, ap, ap₂, refl, subst, arith, lit≤}
+use Rattle.std.proofs.Common.{lt_of_le_of_lt, lt_of_lt_of_le, div-le_self, mul-pos, Bool, true, false, T, ℤ, ◌<ℤ◌, ◌≤ℤ◌}
+use Rattle.std.proofs.Common.{pos, negsuc, ◌+ℤ◌, ◌*ℤ◌, ◌-ℤ◌, neg_ℤ, unsigned_abs, int_lt, Option, Some, None, ⊎_elim}
+use Rattle.std.proofs.Common.{◌↔◌}
 use lib.IntN.{*ℤ-one, zero-*ℤ}
 use borrow.Author.Differences.{down}
 use Rattle.std.specs.Int.Signed.{lt_z_yes}
@@ -8,13 +11,13 @@ use Rattle.std.proofs.Math.Nat.{mul-le-mul_right, one-le-pow, pow-le-pow_right}
 use Rattle.std.proofs.lemmas.Nat.{mul-lt}
 use Rattle.std.proofs.lemmas.Int.{ints, unsigned_abs-mul}
 use Rattle.std.proofs.lemmas.Bool.{and_from}
-use Rattle.fractions.specs.Fits.{fits, sum_fits}
-use Rattle.fractions.specs.LowestLemmas.{gcd_of, is_gcd, size-div}
-use Rattle.fractions.specs.Rational.{ℚ, decimal_value, over, whole, zero_ℚ, ◌-ℚ◌, ◌*ℚ◌, neg_ℚ}
-use Rattle.fractions.proofs.Arithmetic.{over_parts, -ℚ_lem, over_same, value_is, neg_size}
-use Rattle.fractions.proofs.Signed.{down_times}
-use Rattle.fractions.proofs.Values.{neg_value, over_value, scaled_value, sum_value}
-use Rattle.duality.specs.Checked.{fitting_difference, less_product}
+use Rattle.exact_numbers.specs.Fits.{fits, sum_fits}
+use Rattle.exact_numbers.specs.LowestLemmas.{gcd_of, is_gcd, size-div}
+use Rattle.exact_numbers.specs.Rational.{ℚ, decimal_value, over, whole, zero_ℚ, ◌-ℚ◌, ◌*ℚ◌, neg_ℚ}
+use Rattle.exact_numbers.proofs.RationalLaws.{over_parts, -ℚ_lem, over_same, value_is, neg_size}
+use Rattle.exact_numbers.proofs.IntegerLaws.{down_times}
+use Rattle.exact_numbers.proofs.Values.{neg_value, over_value, scaled_value, sum_value}
+use Rattle.certificates.specs.Checked.{fitting_difference, less_product}
 use Rattle.exact_numbers.specs.declared.frac.Frac.{Frac}
 use Rattle.exact_numbers.specs.Values.{IsQuotientOf, quotient}
 use Rattle.exact_checks.specs.Terms.{value_found}
@@ -98,11 +101,14 @@ unfolding whole
 zero_over = over_parts zero_ℚ
 
 -- a number that is short fits
-pub reduced_is : (r : Option Frac) (p : ℤ) (q : ℕ) (z d : ℤ) → z ≡ p → d ≡ pos q → unsigned_abs p ≤ 2 ^ 63 → 0 < q → q < 2 ^ 63 → IsQuotientOf (d ≡ pos 0) r (quotient z d) → value_found r ≡ Some (over p q)
+pub reduced_is : (r : Option Frac) (p : ℤ) (q : ℕ) (z d : ℤ) → z ≡ p → d ≡ pos q → unsigned_abs p ≤ 2 ^ 63 → 0 < q
+    → q < 2 ^ 63 → IsQuotientOf (d ≡ pos 0) r (quotient z d) → value_found r ≡ Some (over p q)
 reduced_is r p q z d e f small above less h = by r (subst (λ k. IsQuotientOf (k ≡ pos 0) r (quotient p k)) f (subst (λ k. IsQuotientOf (d ≡ pos 0) r (quotient k d)) e h))
   where
     by : (r : Option Frac) → IsQuotientOf (pos q ≡ pos 0) r (over p q) → value_found r ≡ Some (over p q)
-    by None h = absurd (⊎_elim (λ (z : pos q ≡ pos 0). (let none : q ≡ 0 = omega (arith, ints, z) in omega (arith, above))) (λ (n : fits (over p q) ≡ false). (let both : true ≡ false = sym (short_fits (over p q) (short_over p q small less)) ∙ n in cc)) h)
+    by None h = absurd (⊎_elim (λ (z : pos q ≡ pos 0). (let none : q ≡ 0 = omega (arith, ints, z) in
+        omega (arith, above))) (λ (n : fits (over p q) ≡ false).
+        (let both : true ≡ false = sym (short_fits (over p q) (short_over p q small less)) ∙ n in cc)) h)
     by (Some f) h = ap Some h.2
 
 pub factor_small : (a b n : ℕ) → 0 < a → a * b < n → b < n

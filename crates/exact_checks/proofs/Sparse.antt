@@ -3,11 +3,11 @@ use Rattle.std.proofs.Common.{◌≡◌, ◌≢◌, ℕ, zero, suc, ◌+◌, ◌
 use Rattle.std.specs.Prelude.{if◌then◌else◌, option_and_then}
 use Rattle.std.proofs.lemmas.Bool.{ne_eqb}
 use Rattle.std.proofs.lemmas.List.{drop_all}
-use Rattle.fractions.specs.Rational.{ℚ, zero_ℚ}
-use Rattle.fractions.proofs.Arithmetic.{zero-is_zero, not-is_zero}
+use Rattle.exact_numbers.specs.Rational.{ℚ, zero_ℚ}
+use Rattle.exact_numbers.proofs.RationalLaws.{zero-is_zero, not-is_zero}
 use Rattle.exact_numbers.specs.Values.{frac_value}
-use Rattle.duality.specs.Checked.{run}
-use Rattle.fractions.specs.Functions.{is_zero}
+use Rattle.certificates.specs.Checked.{run}
+use Rattle.exact_numbers.specs.Functions.{is_zero}
 use Rattle.linear_program.specs.Coefs.{Term, found, value_or_zero, coef_in}
 use Rattle.linear_program.proofs.PlaceTerms.{coef_there}
 use Rattle.linear_program.proofs.ListLemmas.{rest_of}
@@ -55,7 +55,9 @@ module _ (step : ℚ → ℕ → ℚ → Option ℚ) (g : ℕ → ℚ) (start : 
       let e : to ≡ from + (to - from) = omega arith in
       ap (run (dense step g) start) e ∙ skip from (to - from) (λ j a b. h j a (omega arith))
 
-  pub sparse : (from n : ℕ) (ts : List Term) → AreTerms from n ts → from ≤ n → ((j : ℕ) → from ≤ j → j < n → g j ≡ coef_in ts j) → run (dense step g) start n ≡ run_terms step (run (dense step g) start from) ts
+  pub sparse : (from n : ℕ) (ts : List Term) → AreTerms from n ts → from ≤ n
+      → ((j : ℕ) → from ≤ j → j < n → g j ≡ coef_in ts j) → run (dense step g) start n
+      ≡ run_terms step (run (dense step g) start from) ts
   unfolding run AreTerms
   sparse from n [] ok l same = skip_to from n l same
   sparse from n (t ∷ ts) ok l same =

@@ -8,12 +8,12 @@ use Rattle.exact_checks.specs.declared.verdict.Verdict.{Verdict}
 use Rattle.exact_checks.specs.declared.verdict.BoundVerdict.{BoundVerdict}
 use Rattle.exact_checks.specs.declared.verdict.BoundVerdict.TheVariants.{Bound, RowSideMissing as BoundRowSideMissing, BoundSideMissing as BoundBoundSideMissing, TooWide as BoundTooWide}
 use Rattle.exact_checks.specs.declared.verdict.Verdict.TheVariants.{Yes, Gap, RowBroken as VerdictRowBroken, BoundBroken as VerdictBoundBroken, RowSideMissing as VerdictRowSideMissing, BoundSideMissing as VerdictBoundSideMissing, TooWide as VerdictTooWide}
-use Rattle.fractions.specs.Rational.{ℚ}
-use Rattle.program_meaning.specs.Linear.{Linear, objective_value}
-use Rattle.duality.specs.Points.{Box, IsAsGood, IsRelaxedIn}
+use Rattle.exact_numbers.specs.Rational.{ℚ}
+use Rattle.linear_program.specs.Linear.{Linear, objective_value}
+use Rattle.certificates.specs.Points.{Box, IsAsGood, IsRelaxedIn}
 use Rattle.exact_numbers.specs.Values.{frac_value}
-use Rattle.duality.specs.Says.{VerdictSays}
-use Rattle.duality.specs.Verdict.{Verdict as Answer, yes, gap, refused, BoundVerdict as BoundAnswer, bound, no_bound, Place, at_row, at_cost, at_objective, at_total, Fault as Cause, row_broken, bound_broken, row_side_missing, bound_side_missing, too_wide}
+use Rattle.certificates.specs.Says.{VerdictSays}
+use Rattle.certificates.specs.Verdict.{Verdict as Answer, yes, gap, refused, BoundVerdict as BoundAnswer, bound, no_bound, Place, at_row, at_cost, at_objective, at_total, Fault as Cause, row_broken, bound_broken, row_side_missing, bound_side_missing, too_wide}
 
 abbrev pub place_of : Spot → Place
 place_of (Row i) = at_row i

@@ -1,9 +1,9 @@
 -- The bound of a leaf: over the rows of a program and those of planes after them.
 use Rattle.std.specs.Prelude.{◌≡◌, ℕ, suc, ◌<◌, ◌≤◌, ◌+◌, ◌++◌, Bool, List, [], ◌∷◌, length, if◌then◌else◌, slice_get, Option, Some, option_and_then}
-use Rattle.fractions.specs.Functions.{is_zero}
-use Rattle.fractions.specs.Rational.{ℚ}
-use Rattle.program_meaning.specs.Linear.{Linear, row_at, row_count, variable_count}
-use Rattle.duality.specs.Checked.{fitting, less_product}
+use Rattle.exact_numbers.specs.Functions.{is_zero}
+use Rattle.exact_numbers.specs.Rational.{ℚ}
+use Rattle.linear_program.specs.Linear.{Linear, row_at, row_count, variable_count}
+use Rattle.certificates.specs.Checked.{fitting, less_product}
 use Rattle.linear_program.specs.Intervals.{interval_of}
 use Rattle.linear_program.specs.Coefs.{Term, coef_in}
 use Rattle.linear_program.specs.Numbers.{Pair, number_value}

@@ -5,9 +5,9 @@ use Rattle.std.specs.Coded.{le_prop}
 use Rattle.std.specs.Global.{Vec}
 use native.Mathlib.Nat.{ℕ_set}
 use Rattle.std.proofs.Math.IntN.{ℤ_set}
-use Rattle.fractions.specs.Rational.{ℚ}
-use Rattle.program_meaning.specs.Linear.{Form, Interval, unbounded}
-use Rattle.program_meaning.specs.Linear.{zero_form}
+use Rattle.exact_numbers.specs.Rational.{ℚ}
+use Rattle.linear_program.specs.Linear.{Form, Interval, unbounded}
+use Rattle.linear_program.specs.Linear.{zero_form}
 use Rattle.exact_numbers.specs.declared.dec.Dec.{Dec}
 use Rattle.exact_numbers.specs.declared.frac.Frac.{Frac}
 use Rattle.exact_numbers.specs.Values.{frac_value}

@@ -1,15 +1,15 @@
 -- The linear program that a value of Program, or of Columns, is.
 use Rattle.std.specs.Prelude.{ℕ, Bool, false, List, length, get_or, Option}
-use Rattle.fractions.specs.Rational.{ℚ, zero_ℚ}
-use Rattle.program_meaning.specs.Linear.{Form, Row as LinearRow, Variable, Linear}
-use Rattle.program_meaning.specs.Linear.{zero_form}
+use Rattle.exact_numbers.specs.Rational.{ℚ, zero_ℚ}
+use Rattle.linear_program.specs.Linear.{Form, Row as LinearRow, Variable, Linear}
+use Rattle.linear_program.specs.Linear.{zero_form}
 use Rattle.exact_numbers.specs.declared.dec.Dec.{Dec}
 use Rattle.exact_numbers.specs.declared.frac.Frac.{Frac}
 use Rattle.exact_numbers.specs.Values.{frac_value}
 use Rattle.linear_program.specs.declared.kind.Kind.{Kind}
 use Rattle.linear_program.specs.declared.kind.Kind.TheVariants.{Continuous}
-use Rattle.program_meaning.specs.Elements.{elements_from}
-use Rattle.program_meaning.specs.Names.{row_name, variable_name}
+use Rattle.linear_program.specs.Elements.{elements_from}
+use Rattle.linear_program.specs.Names.{row_name, variable_name}
 use Rattle.linear_program.specs.Intervals.{is_whole_kind}
 use Rattle.exact_checks.specs.declared.columns.Columns.{Columns}
 use Rattle.exact_checks.specs.declared.form.Row.{Row}

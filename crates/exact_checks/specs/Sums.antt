@@ -2,11 +2,11 @@
 use Rattle.std.specs.Prelude.{◌≡◌, ◌≢◌, ℕ, ◌<◌, Bool, List, [], length, get_or, Option, Some, None, option_and_then}
 use Rattle.std.specs.List.{Contains}
 use Rattle.std.specs.List.Sorted.{IsNonDecreasingBy}
-use Rattle.fractions.specs.Rational.{ℚ, over, zero_ℚ}
-use Rattle.program_meaning.specs.Linear.{Interval, Linear, row_count}
-use Rattle.duality.specs.Checked.{less_product, run}
-use Rattle.duality.specs.Points.{Box, Numbers}
-use Rattle.duality.specs.Verdict.{BoundVerdict, Fault, bound_or_fault, cost_check, cost_part_of, first_fault, needed_side, row_part}
+use Rattle.exact_numbers.specs.Rational.{ℚ, over, zero_ℚ}
+use Rattle.linear_program.specs.Linear.{Interval, Linear, row_count}
+use Rattle.certificates.specs.Checked.{less_product, run}
+use Rattle.certificates.specs.Points.{Box, Numbers}
+use Rattle.certificates.specs.Verdict.{BoundVerdict, Fault, bound_or_fault, cost_check, cost_part_of, first_fault, needed_side, row_part}
 use Rattle.exact_numbers.specs.declared.dec.Dec.{Dec}
 use Rattle.exact_numbers.specs.Values.{frac_value}
 use Rattle.exact_checks.specs.Terms.{side_value}

@@ -8,9 +8,9 @@ use exact_numbers::Frac;
 /// A linear program: the same coefficients by row and by column.
 #[derive(Drop)]
 pub struct Columns {
-    pub(crate) program: Program,
-    pub(crate) columns: Vec<Vec<(u32, Frac)>>,
-    pub(crate) costs: Vec<Frac>,
+    pub program: Program,
+    pub columns: Vec<Vec<(u32, Frac)>>,
+    pub costs: Vec<Frac>,
     pub ghost width: { length columns.items ≡ length program.lower.items },
     pub ghost costed: { length costs.items ≡ length program.lower.items },
     pub ghost transposed: { AreTransposed program.rows.items columns.items costs.items program.objective } by { AreTransposed-prop program.rows.items columns.items costs.items program.objective },

@@ -1,7 +1,7 @@
 // The value of a form at a point.
 ghost use Rattle.std.specs.Prelude.{◌≡◌, IfSome, Some, length, map};
-ghost use Rattle.program_meaning.specs.Linear.{value_at};
-ghost use Rattle.duality.specs.Verdict.{run_form};
+ghost use Rattle.linear_program.specs.Linear.{value_at};
+ghost use Rattle.certificates.specs.Verdict.{run_form};
 ghost use Rattle.exact_numbers.specs.Values.{frac_value};
 ghost use Rattle.linear_program.specs.Coefs.{coef_in};
 ghost use Rattle.exact_checks.specs.Sums.{short_value};

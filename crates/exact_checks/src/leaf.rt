@@ -1,9 +1,9 @@
 // The bound of a leaf, by the rows that have a number.
 ghost use Rattle.std.specs.Prelude.{◌≡◌, IfOk, length};
-ghost use Rattle.program_meaning.specs.Linear.{Linear, row_count};
-ghost use Rattle.fractions.specs.Rational.{zero_ℚ};
-ghost use Rattle.duality.specs.Parts.{maximising};
-ghost use Rattle.duality.specs.Verdict.{dual_bound};
+ghost use Rattle.linear_program.specs.Linear.{Linear, row_count};
+ghost use Rattle.exact_numbers.specs.Rational.{zero_ℚ};
+ghost use Rattle.certificates.specs.Parts.{maximising};
+ghost use Rattle.certificates.specs.Verdict.{dual_bound};
 ghost use Rattle.exact_numbers.specs.Values.{frac_value};
 ghost use Rattle.linear_program.specs.Coefs.{coef_in};
 ghost use Rattle.linear_program.specs.Numbers.{spread};

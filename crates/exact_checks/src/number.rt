@@ -1,7 +1,7 @@
 // Sums and products that fit, in exact values.
 ghost use Rattle.std.specs.Prelude.{◌≡◌, pos, int_lt, option_and_then};
-ghost use Rattle.duality.specs.Checked.{fitting, fitting_sum, fitting_difference, fitting_product, plus_product, less_product, is_at_most, is_same};
-ghost use Rattle.fractions.specs.Functions.{is_zero};
+ghost use Rattle.certificates.specs.Checked.{fitting, fitting_sum, fitting_difference, fitting_product, plus_product, less_product, is_at_most, is_same};
+ghost use Rattle.exact_numbers.specs.Functions.{is_zero};
 ghost use Rattle.exact_numbers.specs.Values.{dec_value, frac_value};
 ghost use Rattle.exact_checks.specs.Terms.{value_found};
 ghost use Rattle.linear_program.specs.Numbers.{number_value};
@@ -9,9 +9,9 @@ ghost use Rattle.linear_program.specs.Numbers.{number_value};
 use exact_numbers::{Dec, Frac};
 use linear_program::Number;
 
-// The number as a fraction, where it fits.
+/// The number as a fraction, where it fits.
 #[tactic(auto, using(crate::proofs::Numbers::found))]
-pub(crate) fn fraction(number: Dec) -> Option<Frac>
+pub fn fraction(number: Dec) -> Option<Frac>
     ensures { value_found result ≡ fitting (dec_value number) }
 {
     Frac::of_dec(number)
@@ -38,9 +38,9 @@ pub(crate) fn difference(a: Frac, b: Frac) -> Option<Frac>
     a.sub(b)
 }
 
-// start + a * b; none where the product or the sum does not fit.
-#[tactic(auto, unfolding(duality::specs::Checked::plus_product))]
-pub(crate) fn plus_product(start: Frac, a: Frac, b: Frac) -> Option<Frac>
+/// start + a * b; none where the product or the sum does not fit.
+#[tactic(auto, unfolding(certificates::specs::Checked::plus_product))]
+pub fn plus_product(start: Frac, a: Frac, b: Frac) -> Option<Frac>
     ensures { value_found result ≡ plus_product (frac_value start) (frac_value a) (frac_value b) }
 {
     match product(a, b) {
@@ -49,46 +49,15 @@ pub(crate) fn plus_product(start: Frac, a: Frac, b: Frac) -> Option<Frac>
     }
 }
 
-// start - a * b
-#[tactic(auto, unfolding(duality::specs::Checked::less_product))]
-pub(crate) fn less_product(start: Frac, a: Frac, b: Frac) -> Option<Frac>
+/// start - a * b; none where the product or the difference does not fit.
+#[tactic(auto, unfolding(certificates::specs::Checked::less_product))]
+pub fn less_product(start: Frac, a: Frac, b: Frac) -> Option<Frac>
     ensures { value_found result ≡ less_product (frac_value start) (frac_value a) (frac_value b) }
 {
     match product(a, b) {
         Some(part) => difference(start, part),
         None => None,
     }
-}
-
-// start + a * b, where b fits
-pub(crate) fn plus_number(start: Frac, a: Frac, b: Dec) -> Option<Frac>
-    ensures { value_found result
-        ≡ option_and_then (λ v. plus_product (frac_value start) (frac_value a) v)
-        (fitting (dec_value b)) }
-{
-    match fraction(b) {
-        Some(number) => plus_product(start, a, number),
-        None => None,
-    }
-}
-
-// start - b * a, where b fits
-pub(crate) fn less_number(start: Frac, a: Frac, b: Dec) -> Option<Frac>
-    ensures { value_found result
-        ≡ option_and_then (λ v. less_product (frac_value start) v (frac_value a))
-        (fitting (dec_value b)) }
-{
-    match fraction(b) {
-        Some(number) => less_product(start, number, a),
-        None => None,
-    }
-}
-
-#[tactic(auto, using(crate::proofs::Numbers::order_test))]
-pub(crate) fn is_at_most(a: Dec, b: Dec) -> bool
-    ensures { result ≡ is_at_most (dec_value a) (dec_value b) }
-{
-    a.order(b).is_le()
 }
 
 /// Whether a is at most b.
@@ -99,20 +68,8 @@ pub fn frac_is_at_most(a: Frac, b: Frac) -> bool
     a.order(b).is_le()
 }
 
-#[tactic(auto, unfolding(duality::specs::Checked::is_same))]
-pub(crate) fn is_same(a: Frac, b: Frac) -> bool
-    ensures { result ≡ is_same (frac_value a) (frac_value b) }
-{
-    frac_is_at_most(a, b) && frac_is_at_most(b, a)
-}
-
-pub(crate) fn is_zero(a: Frac) -> bool
-    ensures { result ≡ is_zero (frac_value a) }
-{
-    a.is_zero()
-}
-
-pub(crate) fn is_negative(a: Frac) -> bool
+/// Whether a is below 0.
+pub fn is_negative(a: Frac) -> bool
     ensures { result ≡ int_lt (frac_value a).top (pos 0) }
 {
     a.is_negative()

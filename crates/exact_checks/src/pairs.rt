@@ -2,9 +2,9 @@
 // costs and the part of the rows in the bound.
 ghost use Rattle.std.specs.Prelude.{◌≡◌, ◌+◌, ◌<◌, ◌++◌, ℕ, length, slice_get, option_and_then, Some, IfOk};
 ghost use Rattle.std.specs.Option.{option_map};
-ghost use Rattle.program_meaning.specs.Linear.{Linear, row_count, value_at};
-ghost use Rattle.duality.specs.Checked.{fitting, fitting_difference, plus_product, run};
-ghost use Rattle.duality.specs.Verdict.{first_fault, has_needed, row_part, row_part_of, row_side_missing, side_fault};
+ghost use Rattle.linear_program.specs.Linear.{Linear, row_count, value_at};
+ghost use Rattle.certificates.specs.Checked.{fitting, fitting_difference, plus_product, run};
+ghost use Rattle.certificates.specs.Verdict.{first_fault, has_needed, row_part, row_part_of, row_side_missing, side_fault};
 ghost use Rattle.exact_numbers.specs.Values.{frac_value};
 ghost use Rattle.linear_program.specs.Intervals.{interval_of};
 ghost use Rattle.linear_program.specs.Numbers.{spread, number_value};
@@ -14,12 +14,12 @@ ghost use Rattle.exact_checks.specs.Sums.{AreKept, cost_count, cost_in};
 ghost use Rattle.exact_checks.specs.Terms.{value_found};
 
 use crate::costs::Costs;
-use crate::duals::{needed_side, side_fraction};
 use crate::form::Row;
 use crate::number::{
     difference, is_negative_number, is_zero_number, plus_product, written_fraction,
 };
 use crate::program::Program;
+use crate::sides::{needed_side, side_fraction};
 use crate::sums::sum_of;
 use exact_numbers::Frac;
 use linear_program::{Interval, Number};
@@ -37,8 +37,8 @@ fn row_at<'a>(rows: &'a [Row], planes: &'a [Row], i: usize) -> &'a Row
     }
 }
 
-// Whether the number is 0 or the side that it needs is there.
-pub(crate) fn has_row_side(maximise: bool, number: &Number, sides: Interval) -> bool
+/// Whether the number is 0 or the side that it needs is there.
+pub fn has_row_side(maximise: bool, number: &Number, sides: Interval) -> bool
     ensures { result ≡ has_needed maximise (number_value number.now) (interval_of sides) }
 {
     is_zero_number(number) || needed_side(maximise, is_negative_number(number), sides).is_some()
@@ -108,8 +108,8 @@ fn plus_side(sum: Frac, side: Frac, constant: Frac, number: &Number) -> Option<F
     }
 }
 
-// The sum with the part of a row.
-pub(crate) fn plus_row(sum: Frac, maximise: bool, row: &Row, number: &Number) -> Option<Frac>
+/// The sum with the part of a row.
+pub fn plus_row(sum: Frac, maximise: bool, row: &Row, number: &Number) -> Option<Frac>
     ensures { value_found result
         ≡ row_part_of maximise (interval_of row.now.side) (frac_value row.now.body.constant)
         (frac_value sum) (number_value number.now) }

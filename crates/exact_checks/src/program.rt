@@ -9,12 +9,12 @@ use linear_program::Kind;
 /// A linear program by its rows.
 #[derive(Drop)]
 pub struct Program {
-    pub(crate) rows: Vec<Row>,
-    pub(crate) lower: Vec<Option<Dec>>,
-    pub(crate) upper: Vec<Option<Dec>>,
-    pub(crate) kinds: Vec<Kind>,
-    pub(crate) objective: Body,
-    pub(crate) maximise: bool,
+    pub rows: Vec<Row>,
+    pub lower: Vec<Option<Dec>>,
+    pub upper: Vec<Option<Dec>>,
+    pub kinds: Vec<Kind>,
+    pub objective: Body,
+    pub maximise: bool,
     pub ghost uppers: { length upper.items ≡ length lower.items },
     pub ghost sound: { AreSound (length lower.items) rows.items objective } by { AreSound-prop (length lower.items) rows.items objective },
 }

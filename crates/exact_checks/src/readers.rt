@@ -1,8 +1,8 @@
 // Making and reading linear programs by rows, and by columns.
 ghost use Rattle.std.specs.Prelude.{◌≡◌, ◌<◌, IfOk};
-ghost use Rattle.program_meaning.specs.Linear.{variable_at, variable_count};
-ghost use Rattle.duality.specs.Points.{bounds_of};
-ghost use Rattle.program_meaning.specs.Linear.{row_count};
+ghost use Rattle.linear_program.specs.Linear.{variable_at, variable_count};
+ghost use Rattle.certificates.specs.Points.{bounds_of};
+ghost use Rattle.linear_program.specs.Linear.{row_count};
 ghost use Rattle.linear_program.specs.Intervals.{interval_of, is_whole_kind};
 ghost use Rattle.linear_program.specs.Programs.{linear_value};
 ghost use Rattle.exact_checks.specs.Programs.{program_value, program_of};

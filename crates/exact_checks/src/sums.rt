@@ -1,11 +1,11 @@
 // Running sums: short fractions that are not reduced, as long as all parts have 64 bits.
 ghost use Rattle.std.specs.Prelude.{◌≡◌, ◌≢◌, ◌↔◌, ◌*◌, ◌<◌, ◌^◌, pos, int_lt, Bool, true, false, length, IfSome, IsTrue, Some, option_and_then};
 ghost use Rattle.std.specs.Option.{option_map};
-ghost use Rattle.duality.specs.Checked.{plus_product};
-ghost use Rattle.duality.specs.Verdict.{cost_check, cost_part_of};
-ghost use Rattle.fractions.specs.Fits.{fits};
-ghost use Rattle.fractions.specs.Rational.{ℚ, ◌*ℚ◌, ◌-ℚ◌, neg_ℚ, zero_ℚ};
-ghost use Rattle.program_meaning.specs.Linear.{Interval};
+ghost use Rattle.certificates.specs.Checked.{plus_product};
+ghost use Rattle.certificates.specs.Verdict.{cost_check, cost_part_of};
+ghost use Rattle.exact_numbers.specs.Fits.{fits};
+ghost use Rattle.exact_numbers.specs.Rational.{ℚ, ◌*ℚ◌, ◌-ℚ◌, neg_ℚ, zero_ℚ};
+ghost use Rattle.linear_program.specs.Linear.{Interval};
 ghost use Rattle.exact_numbers.specs.Values.{dec_value, frac_value};
 ghost use Rattle.linear_program.specs.Numbers.{number_value};
 ghost use Rattle.exact_checks.specs.Answers.{cause_found};
@@ -14,9 +14,9 @@ ghost use Rattle.exact_checks.specs.Sums.{IsNeeded, less_part, short_value, sum_
 ghost use Rattle.exact_checks.specs.Terms.{value_found};
 ghost use Rattle.exact_checks.specs.declared.sums.RunningSum.TheVariants.{Untouched};
 
-use crate::duals::side_fraction;
 use crate::number::{is_negative, less_product};
 use crate::short_fraction::ShortFraction;
+use crate::sides::side_fraction;
 use crate::verdict::{Fault, Spot};
 use exact_numbers::{Dec, Frac};
 use linear_program::Number;

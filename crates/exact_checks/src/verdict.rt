@@ -1,4 +1,8 @@
 // Verdicts.
+ghost use Rattle.std.specs.Prelude.{◌≡◌};
+ghost use Rattle.certificates.specs.Verdict.{no_bound, IsDualFault};
+ghost use Rattle.exact_checks.specs.Answers.{bound_answer_of, cause_of};
+
 use exact_numbers::Frac;
 
 /// Where a number does not fit.
@@ -38,12 +42,25 @@ pub enum BoundVerdict {
     TooWide(Spot),
 }
 
-// Why there is no answer.
+/// Why there is no answer.
 #[derive(Clone, Copy)]
-pub(crate) enum Fault {
+pub enum Fault {
     RowBroken(u32),
     BoundBroken(u32),
     RowSideMissing(u32),
     BoundSideMissing(u32),
     TooWide(Spot),
+}
+
+/// Why the duals alone show no bound.
+pub fn bound_refusal(fault: Fault) -> BoundVerdict
+    requires { IsDualFault (cause_of fault) }
+    ensures { bound_answer_of result ≡ no_bound (cause_of fault) }
+{
+    match fault {
+        Fault::RowSideMissing(row) => BoundVerdict::RowSideMissing(row),
+        Fault::BoundSideMissing(variable) => BoundVerdict::BoundSideMissing(variable),
+        Fault::TooWide(spot) => BoundVerdict::TooWide(spot),
+        Fault::RowBroken(_) | Fault::BoundBroken(_) => BoundVerdict::TooWide(Spot::Total),
+    }
 }

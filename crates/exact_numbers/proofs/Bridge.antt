@@ -1,5 +1,8 @@
 -- From pairs of one value to equal numbers, and back.
-use Rattle.std.proofs.Common.{◌≡◌, ◌≢◌, ◌⊎◌, inr, ℕ, zero, suc, ◌*◌, ◌/◌, ◌<◌, ◌^◌, ◌∙◌, sym, ap, ap₂, refl, subst, arith, mul-pos, mul_comm, true, false, ℤ, pos, negsuc, ◌+ℤ◌, ◌*ℤ◌, ◌<ℤ◌, neg_ℤ, unsigned_abs, int_lt, Option, Some, None, MatchOption, ◌↔◌, Less, Equal, Greater, int_cmp, mul-one}
+use Rattle.std.proofs.Common.{◌≡◌, ◌≢◌, ◌⊎◌, inr, ℕ, zero, suc, ◌*◌, ◌/◌, ◌<◌, ◌^◌, ◌∙◌, sym, ap, ap₂, refl, subst}
+use Rattle.std.proofs.Common.{arith, mul-pos, mul_comm, true, false, ℤ, pos, negsuc, ◌+ℤ◌, ◌*ℤ◌, ◌<ℤ◌, neg_ℤ}
+use Rattle.std.proofs.Common.{unsigned_abs, int_lt, Option, Some, None, MatchOption, ◌↔◌, Less, Equal, Greater, int_cmp}
+use Rattle.std.proofs.Common.{mul-one}
 use Prim.Native.Nat.{◌∣◌}
 use Rattle.std.proofs.Math.Nat.{dvd-mul_left, div-mul_cancel, eq_of_mul-eq-mul_right}
 use Rattle.std.specs.Int.{int_signum}
@@ -10,12 +13,12 @@ use Rattle.std.specs.Cmp.{int_ranks}
 use Rattle.std.proofs.lemmas.Bool.{ltb-true, lt-ltb, false_from_ne_true, and_from, and_parts}
 use lib.IntN.{*ℤ_comm, zero-*ℤ}
 use borrow.Author.Differences.{up, down}
-use Rattle.fractions.specs.Divisors.{AreCoprime}
-use Rattle.fractions.specs.LowestLemmas.{lcm_is}
-use Rattle.fractions.specs.Rational.{ℚ, over, whole, zero_ℚ, one_ℚ, ◌+ℚ◌, ◌*ℚ◌, ◌-ℚ◌, neg_ℚ, decimal_value, inverse_of, IsWhole}
-use Rattle.fractions.proofs.Signed.{neg-*ℤ, times_cancel, *ℤ_assoc}
-use Rattle.fractions.proofs.Values.{HasValue, own_value, over_value, whole_value, same_value, same_over, same_crosswise, equal_tops, scaled_value, product_value, neg_value, lt_value}
-use Rattle.fractions.proofs.Arithmetic.{over_parts, decimal_value_lem, zero_top, top_zero, -ℚ_lem, IsWhole-dvd, with_sign_above, with_sign_below}
+use Rattle.exact_numbers.specs.Divisors.{AreCoprime}
+use Rattle.exact_numbers.specs.LowestLemmas.{lcm_is}
+use Rattle.exact_numbers.specs.Rational.{ℚ, over, whole, zero_ℚ, one_ℚ, ◌+ℚ◌, ◌*ℚ◌, ◌-ℚ◌, neg_ℚ, decimal_value, inverse_of, IsWhole}
+use Rattle.exact_numbers.proofs.IntegerLaws.{neg-*ℤ, times_cancel, *ℤ_assoc}
+use Rattle.exact_numbers.proofs.Values.{HasValue, own_value, over_value, whole_value, same_value, same_over, same_crosswise, equal_tops, scaled_value, product_value, neg_value, lt_value}
+use Rattle.exact_numbers.proofs.RationalLaws.{over_parts, decimal_value_lem, zero_top, top_zero, -ℚ_lem, IsWhole-dvd, with_sign_above, with_sign_below}
 use Rattle.exact_numbers.specs.Decimal.{signed}
 use Rattle.exact_numbers.specs.Fraction.{IsFrac}
 use Rattle.exact_numbers.specs.Values.{frac_value, dec_value, is_small, fits, least_multiple, sum_over_multiple, sum_fits, FitsDec, IsInReach, order_of}
@@ -74,7 +77,9 @@ pub fitting : (f : Frac) (x : ℚ) (y : Fraction) → Is x y → SameValue (pair
 fitting f x y h e = is_fitting f x (same_frac_value f x y h e)
 
 -- the same, by parts
-pub fitting_parts : (n : ℤ) (d : ℕ) (above : 0 < d) (lowest : AreCoprime (unsigned_abs n) d) → IsFrac n d → (x : ℚ) (y : Fraction) → Is x y → SameValue (pair n d) y → let z : ℚ = record { top = n; bottom = d; above = above; lowest = lowest } in (fits x ≡ true) × (z ≡ x)
+pub fitting_parts : (n : ℤ) (d : ℕ) (above : 0 < d) (lowest : AreCoprime (unsigned_abs n) d) → IsFrac n d
+    → (x : ℚ) (y : Fraction) → Is x y → SameValue (pair n d) y → let z : ℚ =
+    record { top = n; bottom = d; above = above; lowest = lowest } in (fits x ≡ true) × (z ≡ x)
 fitting_parts n d above lowest frac x y h e =
     let z : ℚ = record { top = n; bottom = d; above = above; lowest = lowest } in
     let k : HasValue z y.top y.bottom = record { above = h.above; equal = e.equal } in
@@ -120,12 +125,16 @@ pub not_sum : (x y : ℚ) → (SumFits x.top x.bottom y.top y.bottom → ⊥) �
 not_sum x y none = false_from_ne_true (sum_fits x y) (λ e. none (sum_fits_out x y e))
 
 -- a sum over a denominator, where both of its parts are in range
-pub summed : (r : Option Frac) (x y z : ℚ) → fits z ≡ true → SumFits x.top x.bottom y.top y.bottom → z ≡ x +ℚ y → MatchOption r (fits z ≡ false) (λ f. (fits z ≡ true) × (frac_value f ≡ z)) → MatchOption r (sum_fits x y ≡ false) (λ f. (sum_fits x y ≡ true) × (frac_value f ≡ x +ℚ y))
+pub summed : (r : Option Frac) (x y z : ℚ) → fits z ≡ true → SumFits x.top x.bottom y.top y.bottom → z ≡ x +ℚ y
+    → MatchOption r (fits z ≡ false) (λ f. (fits z ≡ true) × (frac_value f ≡ z))
+    → MatchOption r (sum_fits x y ≡ false) (λ f. (sum_fits x y ≡ true) × (frac_value f ≡ x +ℚ y))
 summed None x y z fit parts same h = absurd (cc)
 summed (Some f) x y z fit parts same h = (sum_fits_in x y parts, h.1 ∙ same)
 
 -- ---- negation, zero, one, reciprocal
-pub negated_parts : (a : Frac) (n : ℤ) (d : ℕ) (above : 0 < d) (lowest : AreCoprime (unsigned_abs n) d) → n ≡ neg_ℤ a.num → d ≡ a.den → let z : ℚ = record { top = n; bottom = d; above = above; lowest = lowest } in z ≡ neg_ℚ (frac_value a)
+pub negated_parts : (a : Frac) (n : ℤ) (d : ℕ) (above : 0 < d) (lowest : AreCoprime (unsigned_abs n) d)
+    → n ≡ neg_ℤ a.num → d ≡ a.den → let z : ℚ = record { top = n; bottom = d; above = above; lowest = lowest } in
+    z ≡ neg_ℚ (frac_value a)
 negated_parts a n d above lowest e f =
     let z : ℚ = record { top = n; bottom = d; above = above; lowest = lowest } in
     let k : HasValue z (neg_ℤ a.num) a.den = record { above = a.spelled.above; equal = ap₂ (λ t b. t *ℤ pos b) e (sym f) } in
@@ -190,10 +199,14 @@ decimal-times m e k =
     same_value (decimal_is (m *ℤ k) e) (product_value (decimal_is m e) (whole_value k))
     (ap₂ (λ z n. z *ℤ pos n) (*ℤ_assoc m k (pos (10 ^ up e)) ∙ ap (λ z. m *ℤ z) (*ℤ_comm k (pos (10 ^ up e))) ∙ sym (*ℤ_assoc m (pos (10 ^ up e)) k)) (mul-one (10 ^ down e)))
 
-pub in_reach : (r : Option Dec) (d : Dec) (n e k : ℤ) → n ≡ d.m *ℤ k → e ≡ d.e → unsigned_abs (d.m *ℤ k) < 2 ^ 127 → MatchOption r (FitsDec (decimal_value n e) → ⊥) (λ x. dec_value x ≡ decimal_value n e) → MatchOption r (IsInReach d k → ⊥) (λ x. IsInReach d k × (dec_value x ≡ dec_value d *ℚ whole k))
+pub in_reach : (r : Option Dec) (d : Dec) (n e k : ℤ) → n ≡ d.m *ℤ k → e ≡ d.e → unsigned_abs (d.m *ℤ k) < 2 ^ 127
+    → MatchOption r (FitsDec (decimal_value n e) → ⊥) (λ x. dec_value x ≡ decimal_value n e)
+    → MatchOption r (IsInReach d k → ⊥) (λ x. IsInReach d k × (dec_value x ≡ dec_value d *ℚ whole k))
 in_reach r d n e k p q size h = by r (match_dec r _ _ (ap₂ decimal_value p q ∙ decimal-times d.m d.e k) h)
   where
-    by : (r : Option Dec) → MatchOption r (FitsDec (dec_value d *ℚ whole k) → ⊥) (λ x. dec_value x ≡ dec_value d *ℚ whole k) → MatchOption r (IsInReach d k → ⊥) (λ x. IsInReach d k × (dec_value x ≡ dec_value d *ℚ whole k))
+    by : (r : Option Dec) → MatchOption r (FitsDec (dec_value d *ℚ whole k) → ⊥)
+        (λ x. dec_value x ≡ dec_value d *ℚ whole k) → MatchOption r (IsInReach d k → ⊥)
+        (λ x. IsInReach d k × (dec_value x ≡ dec_value d *ℚ whole k))
     by None h = λ reach. h reach.dec
     by (Some x) h = (record { size = size; dec = record { m = x.m; e = x.e; dec = x.spelled; same = h } }, h)
 
@@ -222,11 +235,15 @@ zero_num f e = top_zero (frac_value f) e
 pub zero_link : (f : Frac) → (f.num ≡ pos 0) ↔ (frac_value f ≡ zero_ℚ)
 zero_link f = (zero_is f, zero_num f)
 
-pub divided : (r : Option Frac) (x y z : ℚ) → y ≢ zero_ℚ → x ≡ z → MatchOption r (fits x ≡ false) (λ f. (fits x ≡ true) × (frac_value f ≡ x)) → MatchOption r ((y ≡ zero_ℚ) ⊎ (fits z ≡ false)) (λ f. (y ≢ zero_ℚ) × (fits z ≡ true) × (frac_value f ≡ z))
+pub divided : (r : Option Frac) (x y z : ℚ) → y ≢ zero_ℚ → x ≡ z
+    → MatchOption r (fits x ≡ false) (λ f. (fits x ≡ true) × (frac_value f ≡ x))
+    → MatchOption r ((y ≡ zero_ℚ) ⊎ (fits z ≡ false)) (λ f. (y ≢ zero_ℚ) × (fits z ≡ true) × (frac_value f ≡ z))
 divided None x y z some e h = inr (subst (λ v. fits v ≡ false) e h)
 divided (Some f) x y z some e h = (some, subst (λ v. fits v ≡ true) e h.0, h.1 ∙ e)
 
-pub subtracted : (r : Option Frac) (x y z : ℚ) → y ≡ neg_ℚ z → MatchOption r (sum_fits x y ≡ false) (λ f. (sum_fits x y ≡ true) × (frac_value f ≡ x +ℚ y)) → MatchOption r (sum_fits x (neg_ℚ z) ≡ false) (λ f. (sum_fits x (neg_ℚ z) ≡ true) × (frac_value f ≡ x -ℚ z))
+pub subtracted : (r : Option Frac) (x y z : ℚ) → y ≡ neg_ℚ z
+    → MatchOption r (sum_fits x y ≡ false) (λ f. (sum_fits x y ≡ true) × (frac_value f ≡ x +ℚ y))
+    → MatchOption r (sum_fits x (neg_ℚ z) ≡ false) (λ f. (sum_fits x (neg_ℚ z) ≡ true) × (frac_value f ≡ x -ℚ z))
 subtracted None x y z e h = subst (λ v. sum_fits x v ≡ false) e h
 subtracted (Some f) x y z e h = (subst (λ v. sum_fits x v ≡ true) e h.0, h.1 ∙ ap (λ v. x +ℚ v) e ∙ sym (-ℚ_lem x z))
 

@@ -4,10 +4,10 @@ use Rattle.std.proofs.Common.{◌≡◌, ℕ, ◌*◌, ◌/◌, ◌<◌, ◌∙�
 use Rattle.std.proofs.Math.Nat.{dvd-mul_right, mul-div_cancel_left}
 use Rattle.std.proofs.lemmas.Nat.Gcd.{dvd_trans, dvd_antisymm}
 use Rattle.std.specs.Int.{IsGcd}
-use Rattle.fractions.specs.Divisors.{AreCoprime}
+use Rattle.exact_numbers.specs.Divisors.{AreCoprime}
 use Rattle.exact_numbers.specs.Fraction.{IsLcm}
-pub use Rattle.fractions.proofs.Coprimes.{coprime-mul, coprime-pow}
-pub use Rattle.fractions.specs.LowestLemmas.{dvd_other, coprime-swap, same_reduced, Reduced, reduced_by, lcm_by}
+pub use Rattle.exact_numbers.proofs.Coprimes.{coprime-mul, coprime-pow}
+pub use Rattle.exact_numbers.specs.LowestLemmas.{dvd_other, coprime-swap, same_reduced, Reduced, reduced_by, lcm_by}
 
 -- divisors of coprime numbers
 pub coprime_parts : (a b c d : ℕ) → c ∣ a → d ∣ b → AreCoprime a b → AreCoprime c d

@@ -1,5 +1,8 @@
 -- Which numbers m * 10 ^ e a Dec holds.
-use Rattle.std.proofs.Common.{◌≡◌, ◌≢◌, ℕ, ◌+◌, ◌*◌, ◌%◌, ◌^◌, ◌<◌, ◌≤◌, ◌⊎◌, ◌∙◌, sym, ap, refl, arith, ℤ, pos, negsuc, ◌+ℤ◌, ◌*ℤ◌, ◌≤ℤ◌, neg_ℤ, unsigned_abs, pow-add, subst, ⊎_elim, inl, inr, zero-mul, Bool, true, false, int_lt, zero-le, zero, suc, ◌-ℤ◌, ◌/◌, mul-one, mul_assoc, pow-suc, lit<, lit≤}
+use Rattle.std.proofs.Common.{◌≡◌, ◌≢◌, ℕ, ◌+◌, ◌*◌, ◌%◌, ◌^◌, ◌<◌, ◌≤◌, ◌⊎◌, ◌∙◌, sym, ap, refl, arith, ℤ, pos, negsuc}
+use Rattle.std.proofs.Common.{◌+ℤ◌, ◌*ℤ◌, ◌≤ℤ◌, neg_ℤ, unsigned_abs, pow-add, subst, ⊎_elim, inl, inr, zero-mul, Bool}
+use Rattle.std.proofs.Common.{true, false, int_lt, zero-le, zero, suc, ◌-ℤ◌, ◌/◌, mul-one, mul_assoc, pow-suc, lit<}
+use Rattle.std.proofs.Common.{lit≤}
 use Rattle.std.proofs.lemmas.Bool.{le-ltb, cases_eq, cases_lt}
 use Prim.Native.Nat.{◌∣◌}
 use Rattle.std.proofs.lemmas.Nat.Gcd.{dvd_trans, mod-eq-zero_of_dvd}
@@ -124,7 +127,9 @@ only_signed b s n z e whole odd fits =
     (subst (λ x. x < 2 ^ 127) size f.0, f.1)
 
 pub zero_same : (b : Bool) (n : ℕ) (e : ℤ) → n ≡ 0 → SameValue (scaled (pos 0) (pos 0)) (scaled (signed b n) e)
-zero_same b n e z = subst (λ m. SameValue (scaled (pos 0) (pos 0)) (scaled m e)) (sym (ap (signed b) z ∙ none b)) (same_scaled_in (pos 0) (pos 0) (pos 0) e (from_parts (pos 0) (pos 0) _ _ (zero-mul _ ∙ sym (zero-mul _)) (zero-mul _ ∙ sym (zero-mul _))))
+zero_same b n e z = subst (λ m. SameValue (scaled (pos 0) (pos 0)) (scaled m e)) (sym (ap (signed b) z ∙ none b))
+    (same_scaled_in (pos 0) (pos 0) (pos 0) e (from_parts (pos 0) (pos 0) _ _ (zero-mul _ ∙ sym (zero-mul _))
+    (zero-mul _ ∙ sym (zero-mul _))))
   where
     none : (b : Bool) → signed b 0 ≡ pos 0
     none true = refl
@@ -142,7 +147,8 @@ one_more n e s =
     record {
       rest = s.rest;
       zeros = s.zeros + 1;
-      whole = strip_more n n 0 (sym (mul-one n)) e ∙ ap (λ x. x * 10 ^ 1) s.whole ∙ mul_assoc s.rest (10 ^ s.zeros) 10 ∙ ap (λ x. s.rest * x) (sym (pow-suc 10 s.zeros) ∙ ap (λ k. 10 ^ k) (omega arith));
+      whole = strip_more n n 0 (sym (mul-one n)) e ∙ ap (λ x. x * 10 ^ 1) s.whole ∙ mul_assoc s.rest (10 ^ s.zeros) 10
+          ∙ ap (λ x. s.rest * x) (sym (pow-suc 10 s.zeros) ∙ ap (λ k. 10 ^ k) (omega arith));
       odd = s.odd;
     }
 
@@ -171,7 +177,11 @@ module _ (b : Bool) (n k l : ℕ) (x y : ℤ) (small : n < 10 ^ k) (few : k < 2 
   capped_far : 0 < n → (x ≡ y) ⊎ ((HasDec (scaled (signed b n) (x -ℤ pos l)) → ⊥) × (HasDec (scaled (signed b n) (y -ℤ pos l)) → ⊥))
   capped_far some =
       ⊎_elim inl
-      (λ far. inr (far_out b n k l x some small few short (⊎_elim (λ h. let e = c.above h in inl (omega (arith, ints))) (λ h. let e = c.below h in inr (omega (arith, ints))) far), far_out b n k l y some small few short far))
+      (λ far. inr (
+        far_out b n k l x some small few short (⊎_elim (λ h. let e = c.above h in inl (omega (arith, ints)))
+            (λ h. let e = c.below h in inr (omega (arith, ints))) far),
+        far_out b n k l y some small few short far,
+      ))
       c.exact
 
   pub capped_some : (m e : ℤ) → IsDec m e → SameValue (scaled m e) (scaled (signed b n) (x -ℤ pos l)) → SameValue (scaled m e) (scaled (signed b n) (y -ℤ pos l))
@@ -179,7 +189,8 @@ module _ (b : Bool) (n k l : ℕ) (x y : ℤ) (small : n < 10 ^ k) (few : k < 2 
       ⊎_elim
       (λ some. ⊎_elim (λ h. subst (λ z. SameValue (scaled m e) (scaled (signed b n) (z -ℤ pos l))) h same) (λ h. absurd (h.0 (record { m = m; e = e; dec = dec; same = same }))) (capped_far some))
       (λ z. let none : n ≡ 0 = omega arith in
-      SameValue-trans (scaled-bottom (pos 0) (pos 0)) (SameValue-trans (scaled-bottom (signed b n) (x -ℤ pos l)) same (SameValue-sym (zero_same b n (x -ℤ pos l) none))) (zero_same b n (y -ℤ pos l) none))
+      SameValue-trans (scaled-bottom (pos 0) (pos 0)) (SameValue-trans (scaled-bottom (signed b n) (x -ℤ pos l)) same
+      (SameValue-sym (zero_same b n (x -ℤ pos l) none))) (zero_same b n (y -ℤ pos l) none))
       (cases_lt 0 n)
 
   pub capped_none : (HasDec (scaled (signed b n) (x -ℤ pos l)) → ⊥) → HasDec (scaled (signed b n) (y -ℤ pos l)) → ⊥

@@ -2,7 +2,7 @@
 use Rattle.std.proofs.Common.{arith, ◌≡◌, ◌<◌, ◌≤◌, ◌*◌, ◌^◌, true, ℤ, pos, neg_ℤ, ◌≤ℤ◌, unsigned_abs, subst, sym}
 use Rattle.std.proofs.lemmas.Int.{ints, unsigned_abs-mul}
 use borrow.Author.Differences.{up, down}
-use Rattle.fractions.specs.Rational.{decimal_value}
+use Rattle.exact_numbers.specs.Rational.{decimal_value}
 use Rattle.exact_numbers.specs.Values.{fits}
 use Rattle.exact_numbers.proofs.Pairs.{HasFrac, pair, scaled}
 use Rattle.exact_numbers.proofs.Tens.{ten-pos}

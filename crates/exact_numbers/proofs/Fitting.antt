@@ -2,8 +2,8 @@
 use Rattle.std.proofs.Common.{◌≡◌, ◌∙◌, ℕ, zero, suc, ◌*◌, ◌^◌, ◌<◌, ◌%◌, ◌≢◌, ℤ, pos, negsuc, neg_ℤ, unsigned_abs, int_lt, Option, Some, None, true, false, refl, sym, ap, subst, arith}
 use Rattle.std.specs.Prelude.{MatchOption, unwrap_or}
 use Rattle.std.proofs.lemmas.Int.{ints}
-use Rattle.fractions.specs.Rational.{ℚ, decimal_value, whole, zero_ℚ, one_ℚ, neg_ℚ}
-use Rattle.fractions.proofs.Arithmetic.{neg_size}
+use Rattle.exact_numbers.specs.Rational.{ℚ, decimal_value, whole, zero_ℚ, one_ℚ, neg_ℚ}
+use Rattle.exact_numbers.proofs.RationalLaws.{neg_size}
 use Rattle.exact_numbers.specs.Decimal.{signed}
 use Rattle.exact_numbers.specs.Values.{FitsDec, dec_value, fits_dec}
 use Rattle.exact_numbers.specs.Numbers.{dec_from}
@@ -39,7 +39,9 @@ stripped n z size some small =
       m = signed negative s.rest;
       e = pos s.zeros;
       dec = is_dec negative (signed negative s.rest) (pos s.zeros) s.rest refl s.odd rest_le (omega (arith, ints)) (omega (arith, ints));
-      same = same_dec_value (signed negative s.rest) (pos s.zeros) (decimal_value (signed negative n) (pos 0)) _ (decimal_is (signed negative n) (pos 0)) (signed_moved negative s.rest n s.zeros (pos 0) (pos s.zeros) s.whole (omega (arith, ints)))
+      same = same_dec_value (signed negative s.rest) (pos s.zeros) (decimal_value (signed negative n) (pos 0)) _
+          (decimal_is (signed negative n) (pos 0)) (signed_moved negative s.rest n s.zeros (pos 0) (pos s.zeros) s.whole
+          (omega (arith, ints)))
           ∙ ap (λ y. decimal_value y (pos 0)) self ∙ decimal_whole z;
     }
   where

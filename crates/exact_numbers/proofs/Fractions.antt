@@ -1,5 +1,8 @@
 -- Reduced pairs, and which fractions a Frac holds.
-use Rattle.std.proofs.Common.{◌≡◌, ℕ, zero, suc, ◌*◌, ◌/◌, ◌^◌, ◌<◌, ◌⊎◌, ◌∙◌, sym, ap, ap₂, refl, arith, ℤ, pos, negsuc, ◌+ℤ◌, ◌*ℤ◌, neg_ℤ, unsigned_abs, subst, subst₂, zero-mul, mul-pos, lt_of_le_of_lt, div-le_self, mul_assoc, Bool, true, false, int_lt, not, MatchOption, Option, Some, None, inr}
+use Rattle.std.proofs.Common.{◌≡◌, ℕ, zero, suc, ◌*◌, ◌/◌, ◌^◌, ◌<◌, ◌⊎◌, ◌∙◌, sym, ap, ap₂, refl, arith, ℤ, pos}
+use Rattle.std.proofs.Common.{negsuc, ◌+ℤ◌, ◌*ℤ◌, neg_ℤ, unsigned_abs, subst, subst₂, zero-mul, mul-pos, lt_of_le_of_lt}
+use Rattle.std.proofs.Common.{div-le_self, mul_assoc, Bool, true, false, int_lt, not, MatchOption, Option, Some, None}
+use Rattle.std.proofs.Common.{inr}
 use mathlib.Core.Bool.{beq}
 use mir.Syntax.{w128}
 use borrow.Author.Differences.{same_in}
@@ -9,12 +12,12 @@ use mir.Val.{SFits}
 use Rattle.std.proofs.Math.Nat.{eq_of_mul-eq-mul_right}
 use Rattle.std.proofs.lemmas.Int.{ints}
 use Rattle.std.specs.Int.{IsGcd}
-use Rattle.fractions.specs.Divisors.{AreCoprime}
+use Rattle.exact_numbers.specs.Divisors.{AreCoprime}
 use Rattle.exact_numbers.proofs.Pairs.{Fraction, SameValue, HasFrac, pair, product_of, sum_of, SumFits}
 use Rattle.exact_numbers.specs.Fraction.{IsFrac, IsLcm}
 use Rattle.exact_numbers.specs.Values.{quotient}
-use Rattle.fractions.specs.Rational.{over}
-use Rattle.fractions.specs.LowestLemmas.{gcd_of, is_gcd}
+use Rattle.exact_numbers.specs.Rational.{over}
+use Rattle.exact_numbers.specs.LowestLemmas.{gcd_of, is_gcd}
 use Rattle.exact_numbers.specs.Decimal.{signed}
 use Rattle.exact_numbers.proofs.Coprime.{Reduced, same_reduced, Crosswise, crosswise, reduced_by, lcm_by, same_lcm, lcm_over, coprime-swap}
 use Rattle.exact_numbers.proofs.Signed.{sizes_of, SameValue-trans, SameValue-sym, sum_times, times_twice}
@@ -72,7 +75,9 @@ pub quotient_is : (n d : ℤ) (a b : ℕ) → a ≡ unsigned_abs n → b ≡ uns
 quotient_is n d a b p q =
     ap₂ (λ s t. over (signed (not (beq s t)) a) b) (negative_test n) (negative_test d) ∙ ap₂ (λ x y. over (signed (not (beq (is_negative n) (is_negative d))) x) y) p q ∙ sym (quotient-signed n d)
 
-pub match_with : {T : Type 0} (r : Option T) (b : Bool) (Q : T → Type 0) (D : Type 0) → (D → ⊥) → MatchOption r (b ≡ false) (λ f. (b ≡ true) × Q f) → MatchOption r (D ⊎ (b ≡ false)) (λ f. (D → ⊥) × (b ≡ true) × Q f)
+pub match_with : {T : Type 0} (r : Option T) (b : Bool) (Q : T → Type 0) (D : Type 0) → (D → ⊥)
+    → MatchOption r (b ≡ false) (λ f. (b ≡ true) × Q f) → MatchOption r (D ⊎ (b ≡ false))
+    (λ f. (D → ⊥) × (b ≡ true) × Q f)
 match_with None b Q D n h = inr h
 match_with (Some f) b Q D n h = (n, h.0, h.1)
 
@@ -104,10 +109,13 @@ is_frac_signed s n q small some few coprime =
     }
 
 -- the product of two fractions, by signs and sizes
-pub product_same : (m k : ℤ) (a c b d n q : ℕ) → a ≡ unsigned_abs m → c ≡ unsigned_abs k → Crosswise a b c d n q → SameValue (pair (signed (not (beq (int_lt m (pos 0)) (int_lt k (pos 0)))) n) q) (product_of (pair m b) (pair k d))
+pub product_same : (m k : ℤ) (a c b d n q : ℕ) → a ≡ unsigned_abs m → c ≡ unsigned_abs k → Crosswise a b c d n q
+    → SameValue (pair (signed (not (beq (int_lt m (pos 0)) (int_lt k (pos 0)))) n) q) (product_of (pair m b) (pair k d))
 product_same m k a c b d n q p r w =
     let s = not (beq (int_lt m (pos 0)) (int_lt k (pos 0))) in
-    let sign : signed s (a * c) ≡ m *ℤ k = ap₂ (λ x y. signed (not (beq x y)) (a * c)) (negative_test m) (negative_test k) ∙ ap₂ (λ x y. signed (not (beq (is_negative m) (is_negative k))) (x * y)) p r ∙ sym (signed_product m k) in
+    let sign : signed s (a * c) ≡ m *ℤ k = ap₂ (λ x y. signed (not (beq x y)) (a * c)) (negative_test m)
+    (negative_test k) ∙ ap₂ (λ x y. signed (not (beq (is_negative m) (is_negative k))) (x * y)) p r
+    ∙ sym (signed_product m k) in
     record { equal = signed_times s n (b * d) ∙ ap (signed s) w.same ∙ sym (signed_times s (a * c) q) ∙ ap (λ z. z *ℤ pos q) sign }
 
 -- what `Frac::mul` stands on: its operands are m / b and k / d, of the sizes a and c
@@ -116,7 +124,8 @@ pub record Multiplied (m k : ℤ) (a c b d n q : ℕ) : Type 0 where
   pub is_frac : n < 2 ^ 127 → q < 2 ^ 127 → IsFrac (signed (not (beq (int_lt m (pos 0)) (int_lt k (pos 0)))) n) q
   pub same : SameValue (pair (signed (not (beq (int_lt m (pos 0)) (int_lt k (pos 0)))) n) q) (product_of (pair m b) (pair k d))
 
-pub multiplied : (m k : ℤ) (a c b d g h : ℕ) → a ≡ unsigned_abs m → c ≡ unsigned_abs k → IsFrac m b → IsFrac k d → IsGcd a d g → IsGcd c b h → Multiplied m k a c b d (a / g * (c / h)) (b / h * (d / g))
+pub multiplied : (m k : ℤ) (a c b d g h : ℕ) → a ≡ unsigned_abs m → c ≡ unsigned_abs k → IsFrac m b → IsFrac k d
+    → IsGcd a d g → IsGcd c b h → Multiplied m k a c b d (a / g * (c / h)) (b / h * (d / g))
 multiplied m k a c b d g h p r x y isg ish =
     let s = not (beq (int_lt m (pos 0)) (int_lt k (pos 0))) in
     let ab : AreCoprime a b = subst (λ z. AreCoprime z b) (sym p) x.reduced in
@@ -157,8 +166,11 @@ pub record Added (n : ℤ) (d : ℕ) (k : ℤ) (e g : ℕ) : Type 0 where
   pub above : 0 < d * (e / g)
   pub scale : e / g < 2 ^ 127
   pub other_scale : d / g < 2 ^ 127
-  pub only : SumFits n d k e → (d * (e / g) < 2 ^ 127) × (unsigned_abs (n *ℤ pos (e / g)) < 2 ^ 127) × (unsigned_abs (k *ℤ pos (d / g)) < 2 ^ 127) × (unsigned_abs (n *ℤ pos (e / g) +ℤ k *ℤ pos (d / g)) < 2 ^ 127)
-  pub fits : d * (e / g) < 2 ^ 127 → unsigned_abs (n *ℤ pos (e / g)) < 2 ^ 127 → unsigned_abs (k *ℤ pos (d / g)) < 2 ^ 127 → unsigned_abs (n *ℤ pos (e / g) +ℤ k *ℤ pos (d / g)) < 2 ^ 127 → SumFits n d k e
+  pub only : SumFits n d k e → (d * (e / g) < 2 ^ 127) × (unsigned_abs (n *ℤ pos (e / g)) < 2 ^ 127)
+      × (unsigned_abs (k *ℤ pos (d / g)) < 2 ^ 127) × (unsigned_abs (n *ℤ pos (e / g) +ℤ k *ℤ pos (d / g)) < 2 ^ 127)
+  pub fits : d * (e / g) < 2 ^ 127 → unsigned_abs (n *ℤ pos (e / g)) < 2 ^ 127
+      → unsigned_abs (k *ℤ pos (d / g)) < 2 ^ 127 → unsigned_abs (n *ℤ pos (e / g) +ℤ k *ℤ pos (d / g)) < 2 ^ 127
+      → SumFits n d k e
   pub same : SameValue (pair (n *ℤ pos (e / g) +ℤ k *ℤ pos (d / g)) (d * (e / g))) (sum_of (pair n d) (pair k e))
 
 pub added : (n : ℤ) (d : ℕ) (k : ℤ) (e g : ℕ) → IsFrac n d → IsFrac k e → IsGcd d e g → Added n d k e g
@@ -179,7 +191,8 @@ added n d k e g x y is =
       same = record {
         equal =
             sum_times (n *ℤ pos (e / g)) (k *ℤ pos (d / g)) (d * e)
-            ∙ ap₂ ◌+ℤ◌ (times_twice n (e / g) (d * e) ∙ ap (λ s. n *ℤ pos s) left ∙ sym (times_twice n e (d * (e / g)))) (times_twice k (d / g) (d * e) ∙ ap (λ s. k *ℤ pos s) right ∙ sym (times_twice k d (d * (e / g))))
+            ∙ ap₂ ◌+ℤ◌ (times_twice n (e / g) (d * e) ∙ ap (λ s. n *ℤ pos s) left ∙ sym (times_twice n e (d * (e / g))))
+            (times_twice k (d / g) (d * e) ∙ ap (λ s. k *ℤ pos s) right ∙ sym (times_twice k d (d * (e / g))))
             ∙ sym (sum_times (n *ℤ pos e) (k *ℤ pos d) (d * (e / g)));
       };
     }
@@ -190,13 +203,18 @@ added n d k e g x y is =
     over_parts : (d * (e / g) / d ≡ e / g) × (d * (e / g) / e ≡ d / g)
     over_parts = lcm_over d e g x.above y.above r
 
-    parts : SumFits n d k e → (d * (e / g) < 2 ^ 127) × (unsigned_abs (n *ℤ pos (e / g)) < 2 ^ 127) × (unsigned_abs (k *ℤ pos (d / g)) < 2 ^ 127) × (unsigned_abs (n *ℤ pos (e / g) +ℤ k *ℤ pos (d / g)) < 2 ^ 127)
+    parts : SumFits n d k e → (d * (e / g) < 2 ^ 127) × (unsigned_abs (n *ℤ pos (e / g)) < 2 ^ 127)
+        × (unsigned_abs (k *ℤ pos (d / g)) < 2 ^ 127) × (unsigned_abs (n *ℤ pos (e / g) +ℤ k *ℤ pos (d / g)) < 2 ^ 127)
     parts f =
         let m = f.m in
         let same : m ≡ d * (e / g) = same_lcm d e m (d * (e / g)) f.least (lcm_by d e g r) in
         let first : m / d ≡ e / g = ap (λ z. z / d) same ∙ over_parts.0 in
-        let second : m / e ≡ d / g = ap (λ z. z / e) same ∙ over_parts.1 in
-        (subst (λ z. z < 2 ^ 127) same f.denominator, subst (λ s. unsigned_abs (n *ℤ pos s) < 2 ^ 127) first f.first, subst (λ s. unsigned_abs (k *ℤ pos s) < 2 ^ 127) second f.second, subst₂ (λ s t. unsigned_abs (n *ℤ pos s +ℤ k *ℤ pos t) < 2 ^ 127) first second f.sum)
+        let second : m / e ≡ d / g = ap (λ z. z / e) same ∙ over_parts.1 in (
+          subst (λ z. z < 2 ^ 127) same f.denominator,
+          subst (λ s. unsigned_abs (n *ℤ pos s) < 2 ^ 127) first f.first,
+          subst (λ s. unsigned_abs (k *ℤ pos s) < 2 ^ 127) second f.second,
+          subst₂ (λ s t. unsigned_abs (n *ℤ pos s +ℤ k *ℤ pos t) < 2 ^ 127) first second f.sum,
+        )
 
     left : e / g * (d * e) ≡ e * (d * (e / g))
     left = omega arith

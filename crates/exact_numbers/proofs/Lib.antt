@@ -1,3 +1,11 @@
+pub mod Adding
+pub mod RationalLaws
+pub mod Coprimes
+pub mod Extremes
+pub mod Ring
+pub mod IntegerLaws
+pub mod Tests
+pub mod Values
 pub mod Tens
 pub mod Pairs
 pub mod Signed
@@ -22,3 +30,6 @@ pub mod Zeros
 pub mod PaddedLemmas
 pub mod Fitting
 pub mod OptionLemmas
+pub mod Fracs
+pub mod Wide
+pub mod Written

@@ -15,7 +15,7 @@ use Rattle.std.specs.Str.Parse.{AllDigits, digits_value, signed_digits_value, wi
 use Rattle.std.specs.Prelude.{FitsSigned}
 use mir.Syntax.{w32}
 use mir.Val.{to_z, of_z}
-use Rattle.fractions.specs.Rational.{ℚ}
+use Rattle.exact_numbers.specs.Rational.{ℚ}
 use Rattle.exact_numbers.specs.Decimal.{IsDec}
 use Rattle.exact_numbers.specs.Text.{after_sign, IsExponent, IsDecText, text_value, DecFault, IsWholeText, WholeFault}
 use Rattle.exact_numbers.specs.Values.{dec_value, decimal_of, fits_dec, FitsDec}
@@ -117,7 +117,9 @@ signed_ascii (b ∷ bs) d = by (b == 45) refl (b == 43) refl d
 pub signed_utf8 : (word : List ℕ) → AllDigits 10 (without_leading_sign word) → IsUtf8 word
 signed_utf8 word d = IsUtf8-from_ascii word (signed_ascii word d)
 
-pub signed_of-ok : (word text : List ℕ) (z : ℤ) → text ≡ word → IsNumeral 10 (without_leading_sign text) × FitsSigned w32 (signed_digits_value 10 text) → z ≡ signed_digits_value 10 text → Some (to_z w32 (of_z w32 z)) ≡ signed_of word
+pub signed_of-ok : (word text : List ℕ) (z : ℤ) → text ≡ word
+    → IsNumeral 10 (without_leading_sign text) × FitsSigned w32 (signed_digits_value 10 text)
+    → z ≡ signed_digits_value 10 text → Some (to_z w32 (of_z w32 z)) ≡ signed_of word
 signed_of-ok word text z same is value =
     let fits : FitsSigned w32 z = subst (FitsSigned w32) (sym value) is.1 in
     ap Some (to_z-of_z w32 z fits) ∙ sym (signed_of-some text z is.0 is.1 value) ∙ ap signed_of same
@@ -150,7 +152,9 @@ signed_of-signed_decimal z small = by (are_digits (without_leading_sign (signed_
         rw e (ap (λ r. Some (value r)) read)
     by false e =
         let isnt : (IsNumeral 10 (without_leading_sign (signed_decimal z)) × FitsSigned w32 (signed_digits_value 10 (signed_decimal z))) → ⊥ =
-        λ h. (let t : (are_digits (without_leading_sign (signed_decimal z)) && has_31_bits (signed_digits_value 10 (signed_decimal z))) ≡ true = both _ _ (digits_are _ h.0.0 h.0.1) (fits-31 _ h.1) in absurd cc) in
+        λ h. (let t : (are_digits (without_leading_sign (signed_decimal z))
+        && has_31_bits (signed_digits_value 10 (signed_decimal z))) ≡ true =
+        both _ _ (digits_are _ h.0.0 h.0.1) (fits-31 _ h.1) in absurd cc) in
         let read = parse-signed_decimal {E = ℕ} w32 z (signed_decimal z) (Err 0) fits (size z small) refl isnt in
         absurd cc
 

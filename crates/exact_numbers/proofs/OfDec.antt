@@ -1,11 +1,14 @@
 -- Decimal numbers as reduced pairs.
 use Prim.Native.Nat.{◌∣◌}
-use Rattle.std.proofs.Common.{◌≡◌, ◌≢◌, ℕ, zero, suc, ◌+◌, ◌-◌, ◌*◌, ◌/◌, ◌%◌, ◌^◌, ◌<◌, ◌≤◌, ◌⊎◌, ◌∙◌, sym, ap, ap₂, refl, arith, ℤ, pos, ◌*ℤ◌, ◌≤ℤ◌, ◌<ℤ◌, unsigned_abs, subst, ⊎_elim, inl, inr, int_lt, pow-suc, pow-add, mul_assoc, mul_comm, mul-le-mul_left, mul-pos, add-one, lit<, le-mul_of_pos_right, one-mul, lt_of_lt_of_le, lt_of_le_of_lt, lit≤}
+use Rattle.std.proofs.Common.{◌≡◌, ◌≢◌, ℕ, zero, suc, ◌+◌, ◌-◌, ◌*◌, ◌/◌, ◌%◌, ◌^◌, ◌<◌, ◌≤◌, ◌⊎◌, ◌∙◌, sym, ap, ap₂}
+use Rattle.std.proofs.Common.{refl, arith, ℤ, pos, ◌*ℤ◌, ◌≤ℤ◌, ◌<ℤ◌, unsigned_abs, subst, ⊎_elim, inl, inr, int_lt}
+use Rattle.std.proofs.Common.{pow-suc, pow-add, mul_assoc, mul_comm, mul-le-mul_left, mul-pos, add-one, lit<}
+use Rattle.std.proofs.Common.{le-mul_of_pos_right, one-mul, lt_of_lt_of_le, lt_of_le_of_lt, lit≤}
 use Rattle.std.proofs.Math.Nat.{pow-le-pow_right, pow-zero, one-le-pow, div-add-mod', dvd-mul_left, dvd-mul_right, dvd-mul_right_of_dvd, eq-zero_of_zero-dvd}
 use Rattle.std.proofs.lemmas.Bool.{cases_lt}
 use Rattle.std.proofs.lemmas.Nat.{mul-pow}
 use Rattle.std.proofs.lemmas.Nat.Gcd.{le_of_dvd, mod-eq-zero_of_dvd, dvd_of_mod-eq-zero, dvd_trans}
-use Rattle.fractions.specs.Divisors.{AreCoprime}
+use Rattle.exact_numbers.specs.Divisors.{AreCoprime}
 use Rattle.exact_numbers.proofs.Pairs.{SameValue, HasFrac, pair, scaled}
 use Rattle.exact_numbers.specs.Fraction.{IsFrac, IsCofactor}
 use Rattle.exact_numbers.specs.Decimal.{signed}
@@ -32,7 +35,9 @@ cancelled_more n r f t l p h e ends =
 pub coprime_two : (n : ℕ) → n % 2 ≢ 0 → AreCoprime n 2
 coprime_two n odd d p q =
     let small = le_of_dvd (lit< tt) q in
-    ⊎_elim (λ one. one) (λ other. ⊎_elim (λ z. absurd (let e : 2 ≡ 0 = eq-zero_of_zero-dvd (subst (λ x. x ∣ 2) z q) in omega (arith, e))) (λ two. absurd (odd (mod-eq-zero_of_dvd 2 (subst (λ x. x ∣ n) two p)))) other) (cases d small)
+    ⊎_elim (λ one. one) (λ other. ⊎_elim (λ z. absurd (let e : 2 ≡ 0 = eq-zero_of_zero-dvd (subst (λ x. x ∣ 2) z q) in
+    omega (arith, e))) (λ two. absurd (odd (mod-eq-zero_of_dvd 2 (subst (λ x. x ∣ n) two p)))) other)
+    (cases d small)
   where
     cases : (d : ℕ) → d ≤ 2 → (d ≡ 1) ⊎ ((d ≡ 0) ⊎ (d ≡ 2))
     cases zero h = inr (inl refl)
@@ -159,7 +164,8 @@ some_left n r f k l two h live small e = ⊎_elim (λ p. p) none (cases_lt 0 l)
         let some : 0 < r = ⊎_elim (λ p. p) (λ y. absurd (let gone : r ≡ 0 = omega arith in let m = ap (λ x. x * f ^ k) gone in omega (arith, m, whole))) (cases_lt 0 r) in
         absurd (omega (arith, whole, le-mul_of_pos_right (f ^ k) some, mul_comm r (f ^ k)))
 
-pub cofactor_of : (n t c i j : ℕ) → 0 < n → n < 2 ^ 127 → i ≤ 127 → j ≤ 127 → n ≡ t * 2 ^ (127 - i) → t ≡ c * 5 ^ (127 - j) → (0 < i → t % 2 ≢ 0) → (0 < j → c % 5 ≢ 0) → IsCofactor n c × (0 < c) × (c ≤ n)
+pub cofactor_of : (n t c i j : ℕ) → 0 < n → n < 2 ^ 127 → i ≤ 127 → j ≤ 127 → n ≡ t * 2 ^ (127 - i)
+    → t ≡ c * 5 ^ (127 - j) → (0 < i → t % 2 ≢ 0) → (0 < j → c % 5 ≢ 0) → IsCofactor n c × (0 < c) × (c ≤ n)
 cofactor_of n t c i j live small hi hj whole part twos fives =
     ((divides, coprime-mul c 2 5 even five, greatest), above, below)
   where

@@ -1,5 +1,8 @@
 -- Orders of products.
-use Rattle.std.proofs.Common.{◌≡◌, ◌≢◌, ℕ, suc, ◌+◌, ◌*◌, ◌/◌, ◌%◌, ◌<◌, ◌≤◌, ◌⊎◌, ◌∙◌, sym, ap, ap₂, refl, arith, ⊎_elim, Less, Equal, Greater, nat_cmp, int_cmp, int_lt, ℤ, pos, negsuc, ◌*ℤ◌, ◌<ℤ◌, ◌≤ℤ◌, true, false, cond, unsigned_abs, mul-lt-mul_of_pos_right, mul-le-mul_right, mod-lt, div-add-mod', mul_comm, mul_assoc, pow-add, ◌^◌}
+use Rattle.std.proofs.Common.{◌≡◌, ◌≢◌, ℕ, suc, ◌+◌, ◌*◌, ◌/◌, ◌%◌, ◌<◌, ◌≤◌, ◌⊎◌, ◌∙◌, sym, ap, ap₂, refl, arith}
+use Rattle.std.proofs.Common.{⊎_elim, Less, Equal, Greater, nat_cmp, int_cmp, int_lt, ℤ, pos, negsuc, ◌*ℤ◌, ◌<ℤ◌, ◌≤ℤ◌}
+use Rattle.std.proofs.Common.{true, false, cond, unsigned_abs, mul-lt-mul_of_pos_right, mul-le-mul_right, mod-lt}
+use Rattle.std.proofs.Common.{div-add-mod', mul_comm, mul_assoc, pow-add, ◌^◌}
 use Rattle.std.proofs.lemmas.Bool.{cases_order}
 use Rattle.std.proofs.lemmas.Int.{ints}
 use Rattle.exact_numbers.proofs.Decimals.{abs_is}
@@ -50,8 +53,13 @@ times_pos r d p q = omega (arith, mul-lt-mul_of_pos_right q p)
 pub by_zero : (r s b d : ℕ) → 0 < b → 0 < d → (r ≡ 0) ⊎ (s ≡ 0) → nat_cmp r s ≡ nat_cmp (r * d) (s * b)
 by_zero r s b d p q z =
     ⊎_elim
-    (λ e. let none : r * d ≡ 0 = ap (λ x. x * d) e ∙ omega arith in alike r s (r * d) (s * b) (λ h. let m = times_pos s b p (omega arith) in omega arith) (λ h. let y : s ≡ 0 = omega arith in none ∙ sym (ap (λ x. x * b) y ∙ omega arith)) (λ h. absurd (omega arith)))
-    (λ e. let none : s * b ≡ 0 = ap (λ x. x * b) e ∙ omega arith in alike r s (r * d) (s * b) (λ h. absurd (omega arith)) (λ h. let y : r ≡ 0 = omega arith in ap (λ x. x * d) y ∙ omega arith ∙ sym none) (λ h. let m = times_pos r d q (omega arith) in omega arith))
+    (λ e. let none : r * d ≡ 0 = ap (λ x. x * d) e ∙ omega arith in
+    alike r s (r * d) (s * b) (λ h. let m = times_pos s b p (omega arith) in omega arith)
+    (λ h. let y : s ≡ 0 = omega arith in none ∙ sym (ap (λ x. x * b) y ∙ omega arith)) (λ h. absurd (omega arith)))
+    (λ e. let none : s * b ≡ 0 = ap (λ x. x * b) e ∙ omega arith in
+    alike r s (r * d) (s * b) (λ h. absurd (omega arith))
+    (λ h. let y : r ≡ 0 = omega arith in ap (λ x. x * d) y ∙ omega arith ∙ sym none)
+    (λ h. let m = times_pos r d q (omega arith) in omega arith))
     z
 
 pub turned : (r s b d : ℕ) → nat_cmp (d * r) (b * s) ≡ nat_cmp (r * d) (s * b)
@@ -147,13 +155,17 @@ scale_cmp x y p some =
 -- sizes with their powers of ten, where the first exponent is k above the second
 pub order_shifted : (a b k i j u v : ℕ) → i + v ≡ k + (u + j) → nat_cmp (a * 10 ^ i * 10 ^ v) (b * 10 ^ u * 10 ^ j) ≡ nat_cmp (a * 10 ^ k) b
 order_shifted a b k i j u v e =
-    let left : a * 10 ^ i * 10 ^ v ≡ a * 10 ^ k * 10 ^ (u + j) = mul_assoc a (10 ^ i) (10 ^ v) ∙ ap (λ p. a * p) (sym (pow-add 10 i v) ∙ ap (λ n. 10 ^ n) e ∙ pow-add 10 k (u + j)) ∙ sym (mul_assoc a (10 ^ k) (10 ^ (u + j))) in
+    let left : a * 10 ^ i * 10 ^ v ≡ a * 10 ^ k * 10 ^ (u + j) =
+    mul_assoc a (10 ^ i) (10 ^ v) ∙ ap (λ p. a * p) (sym (pow-add 10 i v) ∙ ap (λ n. 10 ^ n) e ∙ pow-add 10 k (u + j))
+    ∙ sym (mul_assoc a (10 ^ k) (10 ^ (u + j))) in
     let right : b * 10 ^ u * 10 ^ j ≡ b * 10 ^ (u + j) = mul_assoc b (10 ^ u) (10 ^ j) ∙ ap (λ p. b * p) (sym (pow-add 10 u j)) in
     ap₂ nat_cmp left right ∙ scale_cmp (a * 10 ^ k) b (10 ^ (u + j)) (ten-pos (u + j))
 
 pub order_shifted_back : (a b k i j u v : ℕ) → u + j ≡ k + (i + v) → nat_cmp (a * 10 ^ i * 10 ^ v) (b * 10 ^ u * 10 ^ j) ≡ nat_cmp a (b * 10 ^ k)
 order_shifted_back a b k i j u v e =
-    let right : b * 10 ^ u * 10 ^ j ≡ b * 10 ^ k * 10 ^ (i + v) = mul_assoc b (10 ^ u) (10 ^ j) ∙ ap (λ p. b * p) (sym (pow-add 10 u j) ∙ ap (λ n. 10 ^ n) e ∙ pow-add 10 k (i + v)) ∙ sym (mul_assoc b (10 ^ k) (10 ^ (i + v))) in
+    let right : b * 10 ^ u * 10 ^ j ≡ b * 10 ^ k * 10 ^ (i + v) =
+    mul_assoc b (10 ^ u) (10 ^ j) ∙ ap (λ p. b * p) (sym (pow-add 10 u j) ∙ ap (λ n. 10 ^ n) e ∙ pow-add 10 k (i + v))
+    ∙ sym (mul_assoc b (10 ^ k) (10 ^ (i + v))) in
     let left : a * 10 ^ i * 10 ^ v ≡ a * 10 ^ (i + v) = mul_assoc a (10 ^ i) (10 ^ v) ∙ ap (λ p. a * p) (sym (pow-add 10 i v)) in
     ap₂ nat_cmp left right ∙ scale_cmp a (b * 10 ^ k) (10 ^ (i + v)) (ten-pos (i + v))
 

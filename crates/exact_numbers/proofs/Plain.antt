@@ -1,12 +1,15 @@
 -- A text of digits, with one point among them or none, after a sign or none, and an exponent or none.
-use Rattle.std.proofs.Common.{◌≡◌, ◌≢◌, ℕ, zero, suc, ◌+◌, ◌-◌, ◌<◌, ◌≤◌, ◌^◌, ◌||◌, nat_eq, cond, Bool, true, false, Option, Some, None, IfSome, refl, ◌∙◌, sym, ap, ap₂, arith, subst, List, [], ◌∷◌, ◌++◌, length, take, drop, get_or, ℤ, pos, ◌-ℤ◌, unsigned_abs, lit<, append_assoc, append-nil, length-drop, length-take-le, take-add}
+use Rattle.std.proofs.Common.{◌≡◌, ◌≢◌, ℕ, zero, suc, ◌+◌, ◌-◌, ◌<◌, ◌≤◌, ◌^◌, ◌||◌, nat_eq, cond, Bool, true, false}
+use Rattle.std.proofs.Common.{Option, Some, None, IfSome, refl, ◌∙◌, sym, ap, ap₂, arith, subst, List, [], ◌∷◌, ◌++◌}
+use Rattle.std.proofs.Common.{length, take, drop, get_or, ℤ, pos, ◌-ℤ◌, unsigned_abs, lit<, append_assoc, append-nil}
+use Rattle.std.proofs.Common.{length-drop, length-take-le, take-add}
 use Rattle.std.proofs.lemmas.List.{take_more}
 use Rattle.std.proofs.lemmas.Int.Digits.{digits_value-lt}
 use Rattle.std.proofs.Math.Nat.{pow-le-pow_right}
 use Rattle.std.proofs.lemmas.Bool.Decides.{nat_tests}
 use Rattle.std.specs.Char.{digit_value}
 use Rattle.std.specs.Str.Parse.{AllDigits, digits_value, digits_value_after}
-use Rattle.fractions.specs.Rational.{decimal_value}
+use Rattle.exact_numbers.specs.Rational.{decimal_value}
 use Rattle.exact_numbers.specs.Decimal.{signed}
 use Rattle.exact_numbers.specs.Text.{begins_minus, after_sign, is_mark, IsDecText, text_value}
 use Rattle.exact_numbers.specs.InsideFront.{IsBare, IsPlain, IsPower, IsFrontDec}
@@ -81,7 +84,9 @@ front_of (b ∷ text) (suc n) len some within is = by (nat_eq b 43 || nat_eq b 4
 
 -- ---- without an exponent
 
-bare_of : (word whole fraction : List ℕ) (s : Bool) (size places : ℕ) → Cut word whole fraction [] → begins_minus word ≡ s → AllDigits 10 whole → AllDigits 10 fraction → 0 < length whole → digits_value 10 (whole ++ fraction) ≡ size → length fraction ≡ places → IsBare word s size places
+bare_of : (word whole fraction : List ℕ) (s : Bool) (size places : ℕ) → Cut word whole fraction []
+    → begins_minus word ≡ s → AllDigits 10 whole → AllDigits 10 fraction → 0 < length whole
+    → digits_value 10 (whole ++ fraction) ≡ size → length fraction ≡ places → IsBare word s size places
 bare_of word whole fraction s size places c sign d df some number deep = record {
   is = (reading word whole fraction [] s _ _ c sign d df some tt refl).is;
   bare = c.exponent_is;
@@ -91,7 +96,8 @@ bare_of word whole fraction s size places c sign d df some number deep = record 
 }
 
 -- digits alone
-pub plain_digits : (text body : List ℕ) (s : Bool) (n size len : ℕ) → body ≡ after_sign text → s ≡ begins_minus text → n ≢ 0 → n ≤ length body → n ≤ 18 → AllDigits 10 (take n body) → size ≡ digits_value_after 10 0 (take n body)
+pub plain_digits : (text body : List ℕ) (s : Bool) (n size len : ℕ) → body ≡ after_sign text → s ≡ begins_minus text
+    → n ≢ 0 → n ≤ length body → n ≤ 18 → AllDigits 10 (take n body) → size ≡ digits_value_after 10 0 (take n body)
     → len ≡ length text - length body + n → IsPlain text s size 0 len
 plain_digits text body s n size len e minus more within few d value is =
     let f = front_of text n len (omega (arith, more)) (subst (λ xs. n ≤ length xs) e within) (is ∙ ap (λ xs. length text - length xs + n) e) in
@@ -115,7 +121,9 @@ cut_front body n k within =
     ∙ append_assoc (take n body) (get_or body n 0 ∷ []) (take k (drop (n + 1) body))
 
 -- digits with a point behind the first n of them
-pub plain_point : (text body fraction : List ℕ) (s : Bool) (n k front size len : ℕ) → body ≡ after_sign text → s ≡ begins_minus text → n ≢ 0 → n < length body → get_or body n 0 ≡ 46 → fraction ≡ drop (n + 1) body → k ≤ length fraction
+pub plain_point : (text body fraction : List ℕ) (s : Bool) (n k front size len : ℕ) → body ≡ after_sign text
+    → s ≡ begins_minus text → n ≢ 0 → n < length body → get_or body n 0 ≡ 46 → fraction ≡ drop (n + 1) body
+    → k ≤ length fraction
     → n ≤ 18 → k ≤ 18 - n → AllDigits 10 (take n body) → front ≡ digits_value_after 10 0 (take n body) → AllDigits 10 (take k fraction) → size ≡ digits_value_after 10 front (take k fraction)
     → len ≡ length text - length body + n + 1 + k → IsPlain text s size k len
 plain_point text body fraction s n k front size len e minus more within point behind fits few few_more d value df next is =
@@ -144,7 +152,9 @@ three_digits xs n size within few d value =
     let long = length-take-le n xs within in
     omega (arith, value, small, pow-le-pow_right {n = 10} (lit< tt) (subst (λ k. k ≤ 3) (sym long) few))
 
-pub power_of : (text body : List ℕ) (s : Bool) (n size len : ℕ) (power : ℤ) → body ≡ after_sign text → s ≡ begins_minus text → n ≢ 0 → n ≤ length body → n ≤ 3 → AllDigits 10 (take n body) → size ≡ digits_value_after 10 0 (take n body)
+pub power_of : (text body : List ℕ) (s : Bool) (n size len : ℕ) (power : ℤ) → body ≡ after_sign text
+    → s ≡ begins_minus text → n ≢ 0 → n ≤ length body → n ≤ 3 → AllDigits 10 (take n body)
+    → size ≡ digits_value_after 10 0 (take n body)
     → power ≡ signed s size → len ≡ length text - length body + n → IsPower text power len
 power_of text body s n size len power e minus more within few d value sign is =
     let f = front_of text n len (omega (arith, more)) (subst (λ xs. n ≤ length xs) e within) (is ∙ ap (λ xs. length text - length xs + n) e) in
@@ -165,10 +175,14 @@ unmarked-append [] y ys h e k = (grind (arith, nat_tests), k)
 unmarked-append (x ∷ xs) y ys h e k = (h.0, unmarked-append xs y ys h.1 e k)
 
 -- the value of a number with an exponent
-pub marked_front : (text rest : List ℕ) (s : Bool) (size places n k len : ℕ) (power : ℤ) (d : Dec) → IsPlain text s size places n → n < length text → is_mark (get_or text n 0) ≡ true → rest ≡ drop (n + 1) text → IsPower rest power k
+pub marked_front : (text rest : List ℕ) (s : Bool) (size places n k len : ℕ) (power : ℤ) (d : Dec)
+    → IsPlain text s size places n → n < length text → is_mark (get_or text n 0) ≡ true → rest ≡ drop (n + 1) text
+    → IsPower rest power k
     → len ≡ n + 1 + k → dec_value d ≡ decimal_value (signed s size) (power -ℤ pos places) → IsFrontDec text d len
 marked_front text rest s size places n k len power d p within mark behind x is same =
-    let whole : take len text ≡ take n text ++ get_or text n 0 ∷ take k rest = ap (λ i. take i text) is ∙ cut_front text n k within ∙ ap (λ xs. take n text ++ get_or text n 0 ∷ take k xs) (sym behind) in
+    let whole : take len text ≡ take n text ++ get_or text n 0 ∷ take k rest =
+    ap (λ i. take i text) is ∙ cut_front text n k within ∙ ap (λ xs. take n text ++ get_or text n 0 ∷ take k xs)
+    (sym behind) in
     let r = marked (take n text) s size places (get_or text n 0) (take k rest) p.bare mark x.is in
     record {
       within = omega (arith, is, x.within, ap length behind, length-drop (n + 1) text, within);
@@ -185,7 +199,9 @@ marked_front text rest s size places n k len power d p within mark behind x is s
 front_word : (text : List ℕ) (d : Dec) (len : ℕ) → IsFrontDec text d len → (len ≤ length text) × (0 < len) × (len ≤ 40) × (dec_of (take len text) ≡ Some d) × IsUnmarked (take len text)
 front_word text d len f = (f.within, f.some, f.few, dec_of-some (take len text) d f.is f.value, f.unmarked)
 
-pub front_words : (text : List ℕ) (result : Option FrontDec) → IfSome result (λ f. IsFrontDec text f.value f.len) → IfSome result (λ f. (f.len ≤ length text) × (0 < f.len) × (f.len ≤ 40) × (dec_of (take f.len text) ≡ Some f.value) × IsUnmarked (take f.len text))
+pub front_words : (text : List ℕ) (result : Option FrontDec) → IfSome result (λ f. IsFrontDec text f.value f.len)
+    → IfSome result (λ f. (f.len ≤ length text) × (0 < f.len) × (f.len ≤ 40) × (dec_of (take f.len text) ≡ Some f.value)
+    × IsUnmarked (take f.len text))
 front_words text None h = tt
 front_words text (Some f) h = front_word text f.value f.len h
 

@@ -1,5 +1,9 @@
 -- The written spelling of a Dec is a decimal text of its value.
-use Rattle.std.proofs.Common.{◌≡◌, ℕ, zero, suc, ◌+◌, ◌-◌, ◌*◌, ◌^◌, ◌<◌, ◌≤◌, ◌∙◌, sym, ap, ap₂, refl, arith, subst, subst₂, length-take-le, List, [], ◌∷◌, ◌++◌, length, take, drop, Bool, true, false, not, cond, ◌||◌, nat_eq, nat_le, int_lt, ℤ, pos, negsuc, neg_ℤ, ◌-ℤ◌, unsigned_abs, append-nil, length-append, length-drop, take-append-drop, take_all, lit<, lt_trans, lt_of_le_of_lt, zero-mul}
+use Rattle.std.proofs.Common.{◌≡◌, ℕ, zero, suc, ◌+◌, ◌-◌, ◌*◌, ◌^◌, ◌<◌, ◌≤◌, ◌∙◌, sym, ap, ap₂, refl, arith, subst}
+use Rattle.std.proofs.Common.{subst₂, length-take-le, List, [], ◌∷◌, ◌++◌, length, take, drop, Bool, true, false, not}
+use Rattle.std.proofs.Common.{cond, ◌||◌, nat_eq, nat_le, int_lt, ℤ, pos, negsuc, neg_ℤ, ◌-ℤ◌, unsigned_abs, append-nil}
+use Rattle.std.proofs.Common.{length-append, length-drop, take-append-drop, take_all, lit<, lt_trans, lt_of_le_of_lt}
+use Rattle.std.proofs.Common.{zero-mul}
 use Rattle.std.proofs.lemmas.List.{drop_all, length-replicate, get_or-replicate}
 use Rattle.std.proofs.Math.Seq.{take-append_seam, drop-append_seam, drop-append-add}
 use Rattle.std.proofs.lemmas.Bool.Decides.{nat_tests}
@@ -9,7 +13,7 @@ use Rattle.std.specs.Char.{digit_value}
 use Rattle.std.specs.Fmt.{decimal}
 use Rattle.std.specs.List.{position_or_len, before_first, after_first}
 use Rattle.std.specs.Str.Parse.{AllDigits, digits_value, digits_value_after}
-use Rattle.fractions.specs.Rational.{decimal_value}
+use Rattle.exact_numbers.specs.Rational.{decimal_value}
 use Rattle.exact_numbers.specs.Decimal.{signed, IsDec}
 use Rattle.exact_numbers.specs.Text.{begins_minus, after_sign, is_mark, is_point, mantissa_part, exponent_part, whole_digits, fraction_digits, IsExponent, exponent_value, IsDecText, text_value}
 use Rattle.exact_numbers.specs.InsideFront.{IsBare}
@@ -127,7 +131,10 @@ pub record IsReading (text : List ℕ) (m e : ℤ) : Type 0 where
   pub is : IsDecText text
   pub value : text_value text ≡ decimal_value m e
 
-pub reading_of : (text whole fraction exponent : List ℕ) (s : Bool) (m e : ℤ) → Cut text whole fraction exponent → begins_minus text ≡ s → AllDigits 10 whole → AllDigits 10 fraction → 0 < length whole + length fraction → IsExponent exponent → decimal_value (signed s (digits_value 10 (whole ++ fraction))) (exponent_value exponent -ℤ pos (length fraction)) ≡ decimal_value m e → IsReading text m e
+pub reading_of : (text whole fraction exponent : List ℕ) (s : Bool) (m e : ℤ) → Cut text whole fraction exponent
+    → begins_minus text ≡ s → AllDigits 10 whole → AllDigits 10 fraction → 0 < length whole + length fraction
+    → IsExponent exponent → decimal_value (signed s (digits_value 10 (whole ++ fraction)))
+    (exponent_value exponent -ℤ pos (length fraction)) ≡ decimal_value m e → IsReading text m e
 reading_of text whole fraction exponent s m e c sign dw df some de value =
     record {
       is = record {
@@ -143,7 +150,10 @@ reading_of text whole fraction exponent s m e c sign dw df some de value =
           ∙ value;
     }
 
-pub reading : (text whole fraction exponent : List ℕ) (s : Bool) (m e : ℤ) → Cut text whole fraction exponent → begins_minus text ≡ s → AllDigits 10 whole → AllDigits 10 fraction → 0 < length whole → IsExponent exponent → decimal_value (signed s (digits_value 10 (whole ++ fraction))) (exponent_value exponent -ℤ pos (length fraction)) ≡ decimal_value m e → IsReading text m e
+pub reading : (text whole fraction exponent : List ℕ) (s : Bool) (m e : ℤ) → Cut text whole fraction exponent
+    → begins_minus text ≡ s → AllDigits 10 whole → AllDigits 10 fraction → 0 < length whole → IsExponent exponent
+    → decimal_value (signed s (digits_value 10 (whole ++ fraction))) (exponent_value exponent -ℤ pos (length fraction))
+    ≡ decimal_value m e → IsReading text m e
 reading text whole fraction exponent s m e c sign dw df some de value = reading_of text whole fraction exponent s m e c sign dw df (omega arith) de value
 
 -- ---- an exponent behind a number without one
@@ -163,7 +173,8 @@ after_sign-append b text more = by (nat_eq b 43 || nat_eq b 45)
     by true = refl
     by false = refl
 
-pub marked : (text : List ℕ) (s : Bool) (size places y : ℕ) (ys : List ℕ) → IsBare text s size places → is_mark y ≡ true → IsExponent (y ∷ ys) → IsReading (text ++ y ∷ ys) (signed s size) (exponent_value (y ∷ ys) -ℤ pos places)
+pub marked : (text : List ℕ) (s : Bool) (size places y : ℕ) (ys : List ℕ) → IsBare text s size places → is_mark y ≡ true
+    → IsExponent (y ∷ ys) → IsReading (text ++ y ∷ ys) (signed s size) (exponent_value (y ∷ ys) -ℤ pos places)
 marked [] s size places y ys bare mark de = absurd (omega (arith, bare.is.some))
 marked (b ∷ bs) s size places y ys bare mark de =
     let text = b ∷ bs in
@@ -191,7 +202,9 @@ zeros-digits k = by k
 
 -- zeros in front do not count
 zeros-front : (k : ℕ) (xs : List ℕ) → digits_value 10 (zeros k ++ xs) ≡ digits_value 10 xs
-zeros-front k xs = after-append 0 (zeros k) xs ∙ ap (λ n. digits_value_after 10 n xs) (after_zeros 0 (zeros k) (λ j l. get_or-replicate k j 48 0 (omega (arith, zeros-length k))) ∙ zero-mul (10 ^ length (zeros k)))
+zeros-front k xs = after-append 0 (zeros k) xs ∙ ap (λ n. digits_value_after 10 n xs)
+    (after_zeros 0 (zeros k) (λ j l. get_or-replicate k j 48 0 (omega (arith, zeros-length k)))
+    ∙ zero-mul (10 ^ length (zeros k)))
 
 zeros-behind : (k : ℕ) (xs : List ℕ) → digits_value 10 (xs ++ zeros k) ≡ digits_value 10 xs * 10 ^ k
 zeros-behind k xs =

@@ -1,6 +1,8 @@
 -- Sums that are reduced by what their denominators have in common, and products of bounded sizes.
 use Prim.Native.Nat.{◌∣◌}
-use Rattle.std.proofs.Common.{◌≡◌, ℕ, ◌+◌, ◌*◌, ◌/◌, ◌<◌, ◌≤◌, ◌^◌, ◌⊎◌, inl, inr, ⊎_elim, ◌∙◌, sym, ap, arith, subst, lit≤, lt_of_le_of_lt, lt_of_lt_of_le, div-le_self, subst₂, int_lt, not, true, refl, suc, ℤ, pos, negsuc, ◌+ℤ◌, ◌*ℤ◌, unsigned_abs}
+use Rattle.std.proofs.Common.{◌≡◌, ℕ, ◌+◌, ◌*◌, ◌/◌, ◌<◌, ◌≤◌, ◌^◌, ◌⊎◌, inl, inr, ⊎_elim, ◌∙◌, sym, ap, arith, subst}
+use Rattle.std.proofs.Common.{lit≤, lt_of_le_of_lt, lt_of_lt_of_le, div-le_self, subst₂, int_lt, not, true, refl, suc}
+use Rattle.std.proofs.Common.{ℤ, pos, negsuc, ◌+ℤ◌, ◌*ℤ◌, unsigned_abs}
 use mathlib.Core.Bool.{beq}
 use Rattle.std.proofs.Math.Nat.{dvd-mul_left, dvd-mul_right, dvd-add, dvd-add_iff_right, one-dvd, mul-div_cancel_left, div-mul_cancel}
 use Rattle.std.proofs.lemmas.Nat.Gcd.{dvd_refl, dvd_trans}
@@ -8,14 +10,14 @@ use Rattle.std.proofs.Math.IntN.{*ℤ-one}
 use Rattle.std.proofs.lemmas.Nat.{mul-lt}
 use Rattle.std.proofs.lemmas.Int.{ints, unsigned_abs-mul}
 use Rattle.std.specs.Int.{IsGcd}
-use Rattle.fractions.specs.Divisors.{AreCoprime}
+use Rattle.exact_numbers.specs.Divisors.{AreCoprime}
 use Rattle.exact_numbers.specs.Fraction.{IsFrac}
 use Rattle.exact_numbers.specs.Decimal.{signed}
 use Rattle.exact_numbers.proofs.Pairs.{SameValue, SumFits, pair, scaled, sum_of, product_of}
 use Rattle.exact_numbers.proofs.Signed.{SameValue-trans}
 use Rattle.exact_numbers.specs.Values.{frac_value, fits, sum_fits}
 use Rattle.exact_numbers.specs.declared.frac.Frac.{Frac}
-use Rattle.fractions.specs.Rational.{◌+ℚ◌, ◌*ℚ◌}
+use Rattle.exact_numbers.specs.Rational.{◌+ℚ◌, ◌*ℚ◌}
 use Rattle.exact_numbers.proofs.Bridge.{sum_fits_in, sum_is, product_is, fitting}
 use Rattle.exact_numbers.proofs.Decimals.{abs_is}
 use Rattle.exact_numbers.proofs.Fractions.{added, multiplied, is_frac, reduced_same, signed_self}
@@ -31,7 +33,9 @@ across a b (pos n) h = inl (omega arith)
 across a b (negsuc n) h = inr (omega arith)
 
 -- a divisor of a sum and of one part divides the other
-sizes_split : (x y : ℤ) → (unsigned_abs (x +ℤ y) ≡ unsigned_abs x + unsigned_abs y) ⊎ ((unsigned_abs x ≡ unsigned_abs (x +ℤ y) + unsigned_abs y) ⊎ (unsigned_abs y ≡ unsigned_abs x + unsigned_abs (x +ℤ y)))
+sizes_split : (x y : ℤ) → (unsigned_abs (x +ℤ y) ≡ unsigned_abs x + unsigned_abs y) ⊎
+    ((unsigned_abs x ≡ unsigned_abs (x +ℤ y) + unsigned_abs y) ⊎
+    (unsigned_abs y ≡ unsigned_abs x + unsigned_abs (x +ℤ y)))
 sizes_split (pos a) (pos b) = inl refl
 sizes_split (negsuc a) (negsuc b) = inl (omega arith)
 sizes_split (pos a) (negsuc b) = inr (across a (suc b) (pos a +ℤ negsuc b) (omega (arith, ints)))
@@ -108,7 +112,10 @@ pub record ShortSum (n : ℤ) (d : ℕ) (k : ℤ) (e : ℕ) (s : ℤ) (v : ℕ) 
   pub frac : IsFrac s v
   pub same : SameValue (pair s v) (sum_of (pair n d) (pair k e))
 
-pub short_sum : (n : ℤ) (d : ℕ) (k : ℤ) (e g h : ℕ) (z : ℤ) (u v : ℕ) → IsFrac n d → IsFrac k e → d < 2 ^ 63 → e < 2 ^ 63 → unsigned_abs (n *ℤ pos (e / g)) < 2 ^ 126 → unsigned_abs (k *ℤ pos (d / g)) < 2 ^ 126 → IsGcd d e g → z ≡ n *ℤ pos (e / g) +ℤ k *ℤ pos (d / g) → IsGcd (unsigned_abs z) g h → u ≡ unsigned_abs z / h → v ≡ d / g * (e / h) → ShortSum n d k e (signed (int_lt z (pos 0)) u) v
+pub short_sum : (n : ℤ) (d : ℕ) (k : ℤ) (e g h : ℕ) (z : ℤ) (u v : ℕ) → IsFrac n d → IsFrac k e → d < 2 ^ 63
+    → e < 2 ^ 63 → unsigned_abs (n *ℤ pos (e / g)) < 2 ^ 126 → unsigned_abs (k *ℤ pos (d / g)) < 2 ^ 126 → IsGcd d e g
+    → z ≡ n *ℤ pos (e / g) +ℤ k *ℤ pos (d / g) → IsGcd (unsigned_abs z) g h → u ≡ unsigned_abs z / h → v ≡ d / g * (e / h)
+    → ShortSum n d k e (signed (int_lt z (pos 0)) u) v
 short_sum n d k e g h z u v x y ds es first second is sum isg us vs =
     let w = added n d k e g x y is in
     let lcm = d * (e / g) in
@@ -136,7 +143,9 @@ pub record ShortProduct (m : ℤ) (b : ℕ) (k : ℤ) (d : ℕ) (s : ℤ) (q : �
   pub frac : IsFrac s q
   pub same : SameValue (pair s q) (product_of (pair m b) (pair k d))
 
-pub short_product : (m : ℤ) (b : ℕ) (k : ℤ) (d a c g h n q : ℕ) → IsFrac m b → IsFrac k d → b < 2 ^ 63 → d < 2 ^ 63 → a ≤ 2 ^ 63 → c ≤ 2 ^ 63 → a ≡ unsigned_abs m → c ≡ unsigned_abs k → IsGcd a d g → IsGcd c b h → n ≡ a / g * (c / h) → q ≡ b / h * (d / g) → ShortProduct m b k d (signed (not (beq (int_lt m (pos 0)) (int_lt k (pos 0)))) n) q
+pub short_product : (m : ℤ) (b : ℕ) (k : ℤ) (d a c g h n q : ℕ) → IsFrac m b → IsFrac k d → b < 2 ^ 63 → d < 2 ^ 63
+    → a ≤ 2 ^ 63 → c ≤ 2 ^ 63 → a ≡ unsigned_abs m → c ≡ unsigned_abs k → IsGcd a d g → IsGcd c b h → n ≡ a / g * (c / h)
+    → q ≡ b / h * (d / g) → ShortProduct m b k d (signed (not (beq (int_lt m (pos 0)) (int_lt k (pos 0)))) n) q
 short_product m b k d a c g h n q x y bs ds al cl p r isg ish ns qs =
     let w = multiplied m k a c b d g h p r x y isg ish in
     let s = not (beq (int_lt m (pos 0)) (int_lt k (pos 0))) in
@@ -157,12 +166,14 @@ pub product_read : {n m k j : ℤ} {d b e c : ℕ} {s : ℤ} {v : ℕ} → n ≡
 product_read {m = m} {k = k} {b = b} {e = e} {s = s} {v = v} p q r t w = subst₂ (λ x y. ShortProduct m b x y s v) r t (subst₂ (λ x y. ShortProduct x y k e s v) p q w)
 
 -- the answers, where f is the pair that was found for x and y
-pub sum_found : (f x y : Frac) (s : ℤ) (v : ℕ) → f.num ≡ s → f.den ≡ v → ShortSum x.num x.den y.num y.den s v → (sum_fits (frac_value x) (frac_value y) ≡ true) × (frac_value f ≡ frac_value x +ℚ frac_value y)
+pub sum_found : (f x y : Frac) (s : ℤ) (v : ℕ) → f.num ≡ s → f.den ≡ v → ShortSum x.num x.den y.num y.den s v
+    → (sum_fits (frac_value x) (frac_value y) ≡ true) × (frac_value f ≡ frac_value x +ℚ frac_value y)
 sum_found f x y s v i j w =
     let whole = subst₂ (λ a b. ShortSum x.num x.den y.num y.den a b) (sym i) (sym j) w in
     (sum_fits_in (frac_value x) (frac_value y) whole.fits, (fitting f _ _ (sum_is (frac_value x) (frac_value y)) whole.same).1)
 
-pub product_found : (f x y : Frac) (s : ℤ) (q : ℕ) → f.num ≡ s → f.den ≡ q → ShortProduct x.num x.den y.num y.den s q → (fits (frac_value x *ℚ frac_value y) ≡ true) × (frac_value f ≡ frac_value x *ℚ frac_value y)
+pub product_found : (f x y : Frac) (s : ℤ) (q : ℕ) → f.num ≡ s → f.den ≡ q → ShortProduct x.num x.den y.num y.den s q
+    → (fits (frac_value x *ℚ frac_value y) ≡ true) × (frac_value f ≡ frac_value x *ℚ frac_value y)
 product_found f x y s q i j w = fitting f _ _ (product_is (frac_value x) (frac_value y)) (subst₂ (λ a b. ShortProduct x.num x.den y.num y.den a b) (sym i) (sym j) w).same
 
 -- a decimal number with the exponent 0

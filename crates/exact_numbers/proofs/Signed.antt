@@ -3,9 +3,9 @@ use Rattle.std.proofs.Common.{◌≡◌, ℕ, ◌*◌, ◌<◌, ◌∙◌, sym, 
 use Rattle.std.proofs.Math.Nat.{eq_of_mul-eq-mul_right}
 use Rattle.exact_numbers.proofs.Pairs.{Fraction, SameValue}
 use borrow.Author.Differences.{up, down}
-pub use Rattle.fractions.proofs.Values.{sizes_of}
-pub use Rattle.fractions.proofs.Signed.{same_halves, up_times, down_times, times_twice}
-use Rattle.fractions.proofs.Signed.{*ℤ-+ℤ}
+pub use Rattle.exact_numbers.proofs.Values.{sizes_of}
+pub use Rattle.exact_numbers.proofs.IntegerLaws.{same_halves, up_times, down_times, times_twice}
+use Rattle.exact_numbers.proofs.IntegerLaws.{*ℤ-+ℤ}
 
 pub parts_of : (a b : ℤ) (p q : ℕ) → a *ℤ pos p ≡ b *ℤ pos q → (up a * p ≡ up b * q) × (down a * p ≡ down b * q)
 parts_of a b p q e =

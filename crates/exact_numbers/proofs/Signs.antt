@@ -2,10 +2,10 @@
 use Rattle.std.proofs.Common.{◌≡◌, ℕ, ◌^◌, ◌↔◌, ◌∙◌, sym, ap, subst, Bool, true, false, ℤ, pos, neg_ℤ, ◌*ℤ◌, ◌<ℤ◌}
 use Rattle.std.proofs.Math.IntN.{zero-*ℤ, *ℤ-one}
 use borrow.Author.Differences.{up, down}
-use Rattle.fractions.specs.Rational.{ℚ, whole, zero_ℚ, ◌<ℚ◌, decimal_value}
-use Rattle.fractions.proofs.Signed.{times_lt, times_lt_cancel, times_cancel}
-use Rattle.fractions.proofs.Values.{HasValue, own_value, whole_value, same_value, equal_tops, lt_value, value_lt}
-use Rattle.fractions.proofs.Arithmetic.{zero_value}
+use Rattle.exact_numbers.specs.Rational.{ℚ, whole, zero_ℚ, ◌<ℚ◌, decimal_value}
+use Rattle.exact_numbers.proofs.IntegerLaws.{times_lt, times_lt_cancel, times_cancel}
+use Rattle.exact_numbers.proofs.Values.{HasValue, own_value, whole_value, same_value, equal_tops, lt_value, value_lt}
+use Rattle.exact_numbers.proofs.RationalLaws.{zero_value}
 use Rattle.exact_numbers.specs.Decimal.{signed}
 use Rattle.exact_numbers.specs.Values.{frac_value}
 use Rattle.exact_numbers.specs.declared.frac.Frac.{Frac}

@@ -1,10 +1,12 @@
 -- The one spelling of the value of a Dec.
-use Rattle.std.proofs.Common.{◌≡◌, ◌≢◌, ℕ, zero, suc, ◌+◌, ◌*◌, ◌/◌, ◌%◌, ◌^◌, ◌<◌, ◌≤◌, ◌&&◌, not, ⊎_elim, ◌∙◌, sym, ap, ap₂, refl, arith, subst, ℤ, pos, negsuc, ◌+ℤ◌, ◌-ℤ◌, ◌*ℤ◌, ◌≤ℤ◌, ◌<ℤ◌, neg_ℤ, unsigned_abs, int_div, nat_eq, Bool, true, false, cond, mul_comm, mul-pos, pow-add}
+use Rattle.std.proofs.Common.{◌≡◌, ◌≢◌, ℕ, zero, suc, ◌+◌, ◌*◌, ◌/◌, ◌%◌, ◌^◌, ◌<◌, ◌≤◌, ◌&&◌, not, ⊎_elim, ◌∙◌, sym}
+use Rattle.std.proofs.Common.{ap, ap₂, refl, arith, subst, ℤ, pos, negsuc, ◌+ℤ◌, ◌-ℤ◌, ◌*ℤ◌, ◌≤ℤ◌, ◌<ℤ◌, neg_ℤ}
+use Rattle.std.proofs.Common.{unsigned_abs, int_div, nat_eq, Bool, true, false, cond, mul_comm, mul-pos, pow-add}
 use Rattle.std.proofs.Math.Nat.{mul-mod_left, eq_of_mul-eq-mul_right, div-add-mod', mul-div_cancel, zero-div}
 use Rattle.std.proofs.lemmas.Bool.{cases_eq, or_right, ne_eqb, eq-eqb, eqb-true, le-leb, and_from}
 use Rattle.std.proofs.lemmas.Int.{ints, by_lt_z, unsigned_abs-mul}
 use borrow.Author.Differences.{up, down, same_in}
-use Rattle.fractions.specs.Rational.{ℚ, decimal_value}
+use Rattle.exact_numbers.specs.Rational.{ℚ, decimal_value}
 use Rattle.exact_numbers.specs.Decimal.{IsDec}
 use Rattle.exact_numbers.specs.Values.{Decimal, is_multiple, mantissa_at, exponent_below, decimal_of, value_text, is_spelled, fits_dec, FitsDec}
 use Rattle.exact_numbers.specs.SpelledLemmas.{second_of_both, spelled_of}
@@ -15,8 +17,8 @@ use Rattle.exact_numbers.proofs.Signed.{sizes_of, times_twice}
 use Rattle.exact_numbers.proofs.Decimals.{abs_is}
 use Rattle.exact_numbers.proofs.Bridge.{Is, decimal_is, zero_decimal, small_of}
 use Rattle.exact_numbers.proofs.Fractions.{signed_times}
-use Rattle.fractions.proofs.Values.{own_value, same_value}
-use Rattle.fractions.proofs.Arithmetic.{zero_top, top_zero}
+use Rattle.exact_numbers.proofs.Values.{own_value, same_value}
+use Rattle.exact_numbers.proofs.RationalLaws.{zero_top, top_zero}
 use Rattle.exact_numbers.proofs.Signs.{dec_zero}
 
 whole_part : (n d : ℕ) → n % d ≡ 0 → n ≡ n / d * d
@@ -79,7 +81,12 @@ decimal_of-decimal m e dec = ⊎_elim zero_case other (cases_eq (unsigned_abs m 
         let both = dec.shortest z in
         let top : unsigned_abs (decimal_value m e).top ≡ 0 = ap unsigned_abs (top_zero _ ((dec_zero m e).0 both.0)) in
         let none : Decimal = record { mantissa = pos 0; exponent = pos 0 } in
-        ap (λ b. cond b none (record { mantissa = mantissa_at (decimal_value m e) (exponent_below (decimal_value m e) 800 (pos 400)); exponent = exponent_below (decimal_value m e) 800 (pos 400) })) (eq-eqb _ _ top)
+        ap (λ b. cond b none (record {
+          mantissa = mantissa_at (decimal_value m e)
+              (exponent_below (decimal_value m e) 800 (pos 400));
+          exponent =
+              exponent_below (decimal_value m e) 800 (pos 400);
+        })) (eq-eqb _ _ top)
         ∙ ap₂ (λ a b. record { mantissa = a; exponent = b }) (sym both.0) (sym both.1)
 
     other : unsigned_abs m % 10 ≢ 0 → decimal_of (decimal_value m e) ≡ record { mantissa = m; exponent = e }
@@ -120,7 +127,9 @@ value_of_spelling : (x : ℚ) → is_multiple x (decimal_of x).exponent ≡ true
 unfolding decimal_of
 value_of_spelling x = by (nat_eq (unsigned_abs x.top) 0) refl
   where
-    by : (b : Bool) → nat_eq (unsigned_abs x.top) 0 ≡ b → let d = cond b none (spelled_by x (exponent_below x 800 (pos 400))) in is_multiple x d.exponent ≡ true → decimal_value d.mantissa d.exponent ≡ x
+    by : (b : Bool) → nat_eq (unsigned_abs x.top) 0 ≡ b → let d =
+        cond b none (spelled_by x (exponent_below x 800 (pos 400))) in
+        is_multiple x d.exponent ≡ true → decimal_value d.mantissa d.exponent ≡ x
     by true e h = zero_decimal (pos 0) ∙ sym (zero_top x (same_in x.top (pos 0) (omega (arith, abs_is x.top, eqb-true _ _ e))))
     by false e h = spelled_value x (exponent_below x 800 (pos 400)) h
 

@@ -1,5 +1,6 @@
 -- Numbers times powers of ten.
-use Rattle.std.proofs.Common.{◌≡◌, ◌≢◌, ℕ, suc, ◌+◌, ◌-◌, ◌*◌, ◌/◌, ◌%◌, ◌^◌, ◌<◌, ◌≤◌, ◌∙◌, sym, ap, add-one, arith, ⊎_elim, pow-add, pow-suc, mul_assoc, mul_comm, le_antisymm, le-mul_of_pos_right, lit<}
+use Rattle.std.proofs.Common.{◌≡◌, ◌≢◌, ℕ, suc, ◌+◌, ◌-◌, ◌*◌, ◌/◌, ◌%◌, ◌^◌, ◌<◌, ◌≤◌, ◌∙◌, sym, ap, add-one, arith}
+use Rattle.std.proofs.Common.{⊎_elim, pow-add, pow-suc, mul_assoc, mul_comm, le_antisymm, le-mul_of_pos_right, lit<}
 use Rattle.std.proofs.Math.Nat.{one-le-pow, pow-le-pow_right, eq_of_mul-eq-mul_right, mul-le-mul_right, mul-mod_left, div-add-mod'}
 use Rattle.std.proofs.lemmas.Bool.{cases_lt}
 

@@ -1,12 +1,16 @@
 -- Digits and the numbers that they are.
-use Rattle.std.proofs.Common.{◌≡◌, ◌≢◌, ℕ, zero, suc, ◌+◌, ◌-◌, ◌*◌, ◌%◌, ◌^◌, ◌<◌, ◌≤◌, ◌∙◌, sym, ap, refl, arith, List, [], ◌∷◌, ◌++◌, length, length-drop, take, drop, take-append-drop, get_or, get_or-drop, subst, le_trans, ⊎_elim, pow-suc, mul_assoc, mul_comm, cond, Bool, true, false, mul-one, take_all, length-take-le, nat_eq, ◌||◌, subst₂, length-append, ◌-ℤ◌, pos, ap₂, pow-add}
+use Rattle.std.proofs.Common.{◌≡◌, ◌≢◌, ℕ, zero, suc, ◌+◌, ◌-◌, ◌*◌, ◌%◌, ◌^◌, ◌<◌, ◌≤◌, ◌∙◌, sym, ap, refl, arith}
+use Rattle.std.proofs.Common.{List, [], ◌∷◌, ◌++◌, length, length-drop, take, drop, take-append-drop, get_or}
+use Rattle.std.proofs.Common.{get_or-drop, subst, le_trans, ⊎_elim, pow-suc, mul_assoc, mul_comm, cond, Bool, true}
+use Rattle.std.proofs.Common.{false, mul-one, take_all, length-take-le, nat_eq, ◌||◌, subst₂, length-append, ◌-ℤ◌, pos}
+use Rattle.std.proofs.Common.{ap₂, pow-add}
 use Rattle.std.proofs.lemmas.Bool.{cases_lt}
 use Rattle.std.proofs.lemmas.List.{take_more}
 use Rattle.std.proofs.lemmas.Bool.Decides.{nat_tests}
 use Rattle.std.specs.Char.{digit_value, is_ascii_digit}
 use Rattle.std.specs.List.{position_or_len}
 use Rattle.exact_numbers.specs.Text.{after_sign, is_mark, is_point, mantissa_part, whole_digits, fraction_digits, exponent_part, IsDecText, IsExponent, exponent_value, begins_minus, text_value}
-use Rattle.fractions.specs.Rational.{decimal_value}
+use Rattle.exact_numbers.specs.Rational.{decimal_value}
 use Rattle.exact_numbers.specs.Decimal.{signed}
 use Rattle.std.proofs.lemmas.Int.Digits.{digits_value-lt}
 use Rattle.std.specs.Str.Parse.{AllDigits, digits_value, digits_value_after}
@@ -36,7 +40,8 @@ after_zeros n [] h = sym (mul-one n)
 after_zeros n (x ∷ xs) h =
     let first : x ≡ 48 = h 0 (omega arith) in
     let start : n * 10 + digit_value x ≡ n * 10 = ap (λ c. n * 10 + digit_value c) first ∙ omega arith in
-    ap (λ m. digits_value_after 10 m xs) start ∙ after_zeros (n * 10) xs (λ k l. h (suc k) (omega arith)) ∙ mul_assoc n 10 (10 ^ length xs) ∙ ap (λ p. n * p) (mul_comm 10 (10 ^ length xs) ∙ sym (pow-suc 10 (length xs)))
+    ap (λ m. digits_value_after 10 m xs) start ∙ after_zeros (n * 10) xs (λ k l. h (suc k) (omega arith))
+    ∙ mul_assoc n 10 (10 ^ length xs) ∙ ap (λ p. n * p) (mul_comm 10 (10 ^ length xs) ∙ sym (pow-suc 10 (length xs)))
 
 pub prefix-le : (n : ℕ) (xs : List ℕ) (i : ℕ) → digits_value_after 10 n (take i xs) ≤ digits_value_after 10 n xs
 prefix-le n xs i =
@@ -50,10 +55,13 @@ pub not_digit : (c : ℕ) → false ≡ is_ascii_digit c → digit_value c < 10 
 not_digit c h l = grind (arith, nat_tests)
 
 -- the digits up to a place, then zeros
-pub zeros_after : (n : ℕ) (xs : List ℕ) (i : ℕ) → i ≤ length xs → ((k : ℕ) → i ≤ k → k < length xs → get_or xs k 0 ≡ 48) → digits_value_after 10 n xs ≡ digits_value_after 10 n (take i xs) * 10 ^ (length xs - i)
+pub zeros_after : (n : ℕ) (xs : List ℕ) (i : ℕ) → i ≤ length xs → ((k : ℕ) → i ≤ k → k < length xs → get_or xs k 0 ≡ 48)
+    → digits_value_after 10 n xs ≡ digits_value_after 10 n (take i xs) * 10 ^ (length xs - i)
 zeros_after n xs i h zeros =
     ap (digits_value_after 10 n) (sym (take-append-drop i xs)) ∙ after-append n (take i xs) (drop i xs)
-    ∙ after_zeros (digits_value_after 10 n (take i xs)) (drop i xs) (λ k l. let m : k < length xs - i = omega (arith, length-drop i xs) in get_or-drop i xs k 0 ∙ zeros (i + k) (omega arith) (omega arith))
+    ∙ after_zeros (digits_value_after 10 n (take i xs)) (drop i xs)
+    (λ k l. let m : k < length xs - i = omega (arith, length-drop i xs) in
+    get_or-drop i xs k 0 ∙ zeros (i + k) (omega arith) (omega arith))
     ∙ ap (λ k. digits_value_after 10 n (take i xs) * 10 ^ k) (length-drop i xs)
 
 -- a number whose last digit is not 0
@@ -107,7 +115,8 @@ kept-value whole fraction w f k = after-append 0 whole fraction ∙ ⊎_elim som
         ∙ mul_assoc n (10 ^ (length whole - w)) (10 ^ (length fraction - f))
         ∙ ap₂ (λ v p. v * p) empty (mul_comm (10 ^ (length whole - w)) (10 ^ (length fraction - f)) ∙ sym (pow-add 10 (length fraction - f) (length whole - w)))
 
-pub kept-shortest : (whole fraction : List ℕ) (w f : ℕ) → AllDigits 10 whole → AllDigits 10 fraction → Kept whole fraction w f → kept_number whole fraction w f ≢ 0 → kept_number whole fraction w f % 10 ≢ 0
+pub kept-shortest : (whole fraction : List ℕ) (w f : ℕ) → AllDigits 10 whole → AllDigits 10 fraction
+    → Kept whole fraction w f → kept_number whole fraction w f ≢ 0 → kept_number whole fraction w f % 10 ≢ 0
 kept-shortest whole fraction w f dw df k some = ⊎_elim (λ l. last_digit (digits_value_after 10 0 (take w whole)) fraction f df l k.within (k.shortest l)) none (cases_lt 0 f)
   where
     none : f ≤ 0 → kept_number whole fraction w f % 10 ≢ 0
@@ -138,7 +147,10 @@ pub record Parts (text whole fraction exponent : List ℕ) : Type 0 where
   pub exponent_is : exponent ≡ exponent_part text
   pub small : length whole + length fraction ≤ length text
 
-pub parts_of : (text body fraction : List ℕ) (mark point : ℕ) → body ≡ after_sign text → mark ≡ position_or_len is_mark body → point ≡ position_or_len is_point (take mark body) → mark ≤ length body → point ≤ length (take mark body) → fraction ≡ drop (point + 1) (take mark body) → Parts text (take point (take mark body)) fraction (take (length body - mark) (drop mark body))
+pub parts_of : (text body fraction : List ℕ) (mark point : ℕ) → body ≡ after_sign text
+    → mark ≡ position_or_len is_mark body → point ≡ position_or_len is_point (take mark body) → mark ≤ length body
+    → point ≤ length (take mark body) → fraction ≡ drop (point + 1) (take mark body)
+    → Parts text (take point (take mark body)) fraction (take (length body - mark) (drop mark body))
 parts_of text body fraction mark point b m p within inside f =
     let mantissa : take mark body ≡ mantissa_part text = ap₂ (λ i xs. take i xs) (m ∙ ap (position_or_len is_mark) b) b in
     let place : point ≡ position_or_len is_point (mantissa_part text) = p ∙ ap (position_or_len is_point) mantissa in
@@ -148,7 +160,15 @@ parts_of text body fraction mark point b m p within inside f =
       whole_is = ap₂ (λ i xs. take i xs) place mantissa;
       fraction_is = f ∙ ap₂ (λ i xs. drop (i + 1) xs) place mantissa;
       exponent_is = take_all (length body - mark) (drop mark body) (omega (arith, length-drop mark body)) ∙ ap₂ (λ i xs. drop i xs) (m ∙ ap (position_or_len is_mark) b) b;
-      small = omega (arith, ap length f, length-drop (point + 1) (take mark body), length-take-le point (take mark body), length-take-le mark body, length_taken point (take mark body) inside, length_taken mark body within);
+      small = omega (
+        arith,
+        ap length f,
+        length-drop (point + 1) (take mark body),
+        length-take-le point (take mark body),
+        length-take-le mark body,
+        length_taken point (take mark body) inside,
+        length_taken mark body within,
+      );
     }
   where
     length_taken : (i : ℕ) (xs : List ℕ) → i ≤ length xs → length (take i xs) ≡ i
@@ -164,7 +184,9 @@ module _ (text whole fraction exponent : List ℕ) (p : Parts text whole fractio
         exponent = subst IsExponent p.exponent_is e;
       }
 
-  pub dec_value_is : (negative : Bool) → negative ≡ begins_minus text → decimal_value (signed negative (digits_value 10 (whole ++ fraction))) (exponent_value exponent -ℤ pos (length fraction)) ≡ text_value text
+  pub dec_value_is : (negative : Bool) → negative ≡ begins_minus text
+      → decimal_value (signed negative (digits_value 10 (whole ++ fraction)))
+      (exponent_value exponent -ℤ pos (length fraction)) ≡ text_value text
   dec_value_is negative b =
       ap (λ s. decimal_value (signed s (digits_value 10 (whole ++ fraction))) (exponent_value exponent -ℤ pos (length fraction))) b
       ∙ ap₂ (λ xs ys. decimal_value (signed (begins_minus text) (digits_value 10 (xs ++ ys))) (exponent_value exponent -ℤ pos (length ys))) p.whole_is p.fraction_is

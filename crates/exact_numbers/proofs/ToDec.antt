@@ -1,12 +1,14 @@
 -- Reduced pairs that are finite decimals.
 use Prim.Native.Nat.{◌∣◌}
-use Rattle.std.proofs.Common.{◌≡◌, ◌≢◌, ℕ, zero, suc, ◌-◌, ◌*◌, ◌%◌, ◌^◌, ◌<◌, ◌≤◌, ◌⊎◌, inl, inr, max, ◌∙◌, sym, ap, ap₂, arith, ℤ, pos, neg_ℤ, ◌*ℤ◌, unsigned_abs, subst, ⊎_elim, int_lt, pow-suc, pow-add, mul_comm, mul-one, one-mul}
+use Rattle.std.proofs.Common.{◌≡◌, ◌≢◌, ℕ, zero, suc, ◌-◌, ◌*◌, ◌%◌, ◌^◌, ◌<◌, ◌≤◌, ◌⊎◌, inl, inr, max, ◌∙◌, sym, ap}
+use Rattle.std.proofs.Common.{ap₂, arith, ℤ, pos, neg_ℤ, ◌*ℤ◌, unsigned_abs, subst, ⊎_elim, int_lt, pow-suc, pow-add}
+use Rattle.std.proofs.Common.{mul_comm, mul-one, one-mul}
 use Rattle.std.proofs.lemmas.Int.{ints}
 use Rattle.std.proofs.Math.Nat.{dvd-mul_left, dvd-mul_right, dvd-mul_right_of_dvd}
 use Rattle.std.proofs.lemmas.Bool.{cases_lt}
 use Rattle.std.proofs.lemmas.Nat.{mul-pow}
 use Rattle.std.proofs.lemmas.Nat.Gcd.{dvd_of_mod-eq-zero, dvd_trans, dvd_refl}
-use Rattle.fractions.specs.Divisors.{AreCoprime}
+use Rattle.exact_numbers.specs.Divisors.{AreCoprime}
 use Rattle.exact_numbers.proofs.Pairs.{SameValue, pair, scaled, HasDec}
 use Rattle.exact_numbers.specs.Fraction.{IsFrac, IsCofactor}
 use Rattle.exact_numbers.specs.Decimal.{signed}
@@ -45,7 +47,9 @@ power_divides f (suc k) h = subst (λ x. f ∣ x) (sym (pow-suc f k)) (dvd-mul_l
 module _ (n : ℤ) (d i j p : ℕ) (frac : IsFrac n d) (whole : d ≡ 2 ^ i * 5 ^ j) (a : i ≤ p) (b : j ≤ p) where
   pub raised : unsigned_abs n * 2 ^ (p - i) * 5 ^ (p - j) * d ≡ unsigned_abs n * 10 ^ p
   raised =
-      let tens : 2 ^ (p - i) * 2 ^ i * (5 ^ (p - j) * 5 ^ j) ≡ 10 ^ p = sym (mul-pow 2 5 p ∙ ap₂ (λ x y. x * y) (ap (λ k. 2 ^ k) (omega (arith, a)) ∙ pow-add 2 (p - i) i) (ap (λ k. 5 ^ k) (omega (arith, b)) ∙ pow-add 5 (p - j) j)) in
+      let tens : 2 ^ (p - i) * 2 ^ i * (5 ^ (p - j) * 5 ^ j) ≡ 10 ^ p =
+      sym (mul-pow 2 5 p ∙ ap₂ (λ x y. x * y) (ap (λ k. 2 ^ k) (omega (arith, a)) ∙ pow-add 2 (p - i) i)
+      (ap (λ k. 5 ^ k) (omega (arith, b)) ∙ pow-add 5 (p - j) j)) in
       ap (λ x. unsigned_abs n * 2 ^ (p - i) * 5 ^ (p - j) * x) whole ∙ moved (unsigned_abs n) (2 ^ (p - i)) (5 ^ (p - j)) (2 ^ i) (5 ^ j) ∙ ap (λ x. unsigned_abs n * x) tens
     where
       moved : (s x y u v : ℕ) → s * x * y * (u * v) ≡ s * (x * u * (y * v))

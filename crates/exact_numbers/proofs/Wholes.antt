@@ -4,7 +4,7 @@ use Rattle.std.proofs.Math.IntN.{*ℤ-one}
 use Rattle.std.specs.Int.{IsGcd}
 use Rattle.std.proofs.lemmas.Nat.Gcd.{IsGcd-from_zero, IsGcd-from_mod}
 use mathlib.Core.Bool.{beq}
-use Rattle.fractions.specs.LowestLemmas.{one_coprime}
+use Rattle.exact_numbers.specs.LowestLemmas.{one_coprime}
 use Rattle.exact_numbers.specs.Fraction.{IsFrac}
 use Rattle.exact_numbers.proofs.Pairs.{SameValue, SumFits, pair, product_of, sum_of}
 use Rattle.exact_numbers.proofs.Coprime.{Crosswise}
@@ -26,7 +26,9 @@ sum_of_ones n k x y =
     let same : n *ℤ pos 1 +ℤ k *ℤ pos 1 ≡ n +ℤ k = ap₂ ◌+ℤ◌ (*ℤ-one n) (*ℤ-one k) in
     record {
       only = λ f. subst (λ z. unsigned_abs z < 2 ^ 127) same (w.only f).3;
-      fits = λ h. w.fits (lit< tt) (subst (λ z. unsigned_abs z < 2 ^ 127) (sym (*ℤ-one n)) x.size) (subst (λ z. unsigned_abs z < 2 ^ 127) (sym (*ℤ-one k)) y.size) (subst (λ z. unsigned_abs z < 2 ^ 127) (sym same) h);
+      fits = λ h. w.fits (lit< tt) (subst (λ z. unsigned_abs z < 2 ^ 127) (sym (*ℤ-one n)) x.size)
+          (subst (λ z. unsigned_abs z < 2 ^ 127) (sym (*ℤ-one k)) y.size)
+          (subst (λ z. unsigned_abs z < 2 ^ 127) (sym same) h);
       same = subst (λ z. SameValue (pair z 1) (sum_of (pair n 1) (pair k 1))) same w.same;
     }
 

@@ -7,12 +7,12 @@ use Rattle.std.proofs.lemmas.Nat.Gcd.{dvd_refl}
 use lib.IntN.{*ℤ-one, zero-*ℤ, +ℤ_idr, +ℤ_idl}
 use Rattle.exact_numbers.specs.declared.frac.Frac.{Frac}
 use Rattle.exact_numbers.specs.Values.{frac_value}
-use Rattle.fractions.specs.LowestLemmas.{lcm_is}
+use Rattle.exact_numbers.specs.LowestLemmas.{lcm_is}
 use Rattle.exact_numbers.proofs.Bridge.{frac_fits_lem}
 use Rattle.exact_numbers.proofs.Coprime.{same_lcm}
-use Rattle.fractions.specs.Fits.{fits, is_small, sum_fits, sum_over_multiple, parts_fit, least_multiple}
-use Rattle.fractions.specs.Rational.{ℚ, whole, zero_ℚ, ◌+ℚ◌}
-use Rattle.fractions.proofs.Arithmetic.{zero-+ℚ, +ℚ_zero}
+use Rattle.exact_numbers.specs.Fits.{fits, is_small, sum_fits, sum_over_multiple, parts_fit, least_multiple}
+use Rattle.exact_numbers.specs.Rational.{ℚ, whole, zero_ℚ, ◌+ℚ◌}
+use Rattle.exact_numbers.proofs.RationalLaws.{zero-+ℚ, +ℚ_zero}
 
 pub fits_zero : fits zero_ℚ ≡ true
 unfolding whole

@@ -1,8 +1,8 @@
 -- What a Frac holds, and divisors prime to ten.
 use Prim.Native.Nat.{◌∣◌}
 use Rattle.std.specs.Prelude.{ℕ, ◌<◌, ◌^◌, ℤ, unsigned_abs}
-use Rattle.fractions.specs.Divisors.{AreCoprime}
-pub use Rattle.fractions.specs.Divisors.{IsLcm}
+use Rattle.exact_numbers.specs.Divisors.{AreCoprime}
+pub use Rattle.exact_numbers.specs.Divisors.{IsLcm}
 
 -- the numbers of a Frac: in lowest terms and in range
 pub record IsFrac (num : ℤ) (den : ℕ) : Type 0 where

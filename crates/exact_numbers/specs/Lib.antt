@@ -1,3 +1,11 @@
+pub mod Divisors
+pub mod Fits
+pub mod FloorLemmas
+pub mod Functions
+pub mod LowestLemmas
+pub mod LowestTerms
+pub mod Rational
+pub mod Sums
 pub mod Fraction
 pub mod Decimal
 pub mod Written
@@ -10,3 +18,4 @@ pub mod Numbers
 pub mod InsidePacked
 pub mod InsideHeld
 pub mod Reasons
+pub mod Words

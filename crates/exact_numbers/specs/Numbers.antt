@@ -3,7 +3,7 @@ use Rattle.std.specs.Prelude.{◌≡◌, refl, ℕ, ◌+◌, ◌<◌, ◌^◌, �
 use Rattle.std.specs.List.{list_all, AllByRecursion}
 use Rattle.std.specs.Char.{digit_value}
 use Rattle.std.specs.Str.Parse.{digits_value, signed_digits_value, without_leading_sign}
-use Rattle.fractions.specs.Rational.{ℚ}
+use Rattle.exact_numbers.specs.Rational.{ℚ}
 use Rattle.exact_numbers.specs.Text.{after_sign, whole_digits, fraction_digits, exponent_part, text_value}
 use Rattle.exact_numbers.specs.Values.{dec_value, decimal_of, fits_dec}
 use Rattle.exact_numbers.specs.declared.dec.Dec.{Dec}

@@ -3,7 +3,7 @@ use Rattle.std.specs.Prelude.{◌≡◌, ◌≢◌, refl, ℕ, suc, ◌%◌, ◌
 use Rattle.std.proofs.Common.{sym, ap, subst, arith}
 use Rattle.std.proofs.lemmas.Bool.{ltb-true, leb-true, eqb-true}
 use Rattle.std.proofs.lemmas.Bool.Decides.{nat_tests}
-use Rattle.fractions.specs.Rational.{ℚ}
+use Rattle.exact_numbers.specs.Rational.{ℚ}
 use Rattle.exact_numbers.specs.Decimal.{IsDec}
 use Rattle.exact_numbers.specs.Fraction.{IsFrac}
 use Rattle.exact_numbers.specs.Values.{is_small, fits, is_spelled, decimal_of, fits_dec}

@@ -2,7 +2,7 @@
 use Rattle.std.specs.Prelude.{◌≡◌, ℕ, ◌+◌, ◌≤◌, ◌^◌, ◌<◌, ℤ, pos, ◌-ℤ◌, Bool, false, ◌||◌, nat_eq, ◌⊎◌, ◌≤ℤ◌, neg_ℤ, if◌then◌else◌, List, [], ◌∷◌, ◌++◌, length, drop, ⊤}
 use Rattle.std.specs.List.{before_first, after_first, position_or_len}
 use Rattle.std.specs.Str.Parse.{AllDigits, digits_value}
-use Rattle.fractions.specs.Rational.{ℚ, decimal_value}
+use Rattle.exact_numbers.specs.Rational.{ℚ, decimal_value}
 use Rattle.exact_numbers.specs.Decimal.{signed}
 use Rattle.exact_numbers.specs.Values.{FitsDec}
 use Rattle.exact_numbers.specs.declared.read.NumFault.{NumFault}

@@ -2,8 +2,8 @@
 use Rattle.std.specs.Ordering.{int_cmp}
 use Rattle.std.specs.declared.cmp.Ordering.{Ordering}
 use Rattle.std.specs.Prelude.{◌≡◌, ℕ, zero, suc, ◌*◌, ◌%◌, ◌<◌, ◌^◌, ℤ, pos, negsuc, ◌*ℤ◌, ◌-ℤ◌, neg_ℤ, unsigned_abs, int_div, Bool, true, false, ◌&&◌, ◌||◌, not, nat_eq, nat_le, if◌then◌else◌, List, Option, MatchOption, ◌⊎◌}
-use Rattle.fractions.specs.Rational.{ℚ, over, whole, ◌*ℚ◌, decimal_value, above_zero, below_zero}
-pub use Rattle.fractions.specs.Fits.{is_small, fits, least_multiple, parts_fit, sum_over_multiple, sum_fits}
+use Rattle.exact_numbers.specs.Rational.{ℚ, over, whole, ◌*ℚ◌, decimal_value, above_zero, below_zero}
+pub use Rattle.exact_numbers.specs.Fits.{is_small, fits, least_multiple, parts_fit, sum_over_multiple, sum_fits}
 use Rattle.exact_numbers.specs.Decimal.{IsDec}
 use Rattle.exact_numbers.specs.Written.{dec_text}
 use Rattle.exact_numbers.specs.declared.dec.Dec.{Dec}

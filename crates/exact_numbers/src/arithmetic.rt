@@ -1,6 +1,6 @@
 ghost use Rattle.std.specs.Prelude.{◌≡◌, ◌≢◌, ℕ, pos, ◌+◌, ◌*◌, ◌%◌, ◌<◌, ◌≤◌, ◌^◌, ◌⊎◌, true, false, MatchOption, unsigned_abs, neg_ℤ, IsTrue, ◌↔◌, SomeIff, ◌*ℤ◌, ◌+ℤ◌, ◌<ℤ◌};
 ghost use Rattle.exact_numbers.specs.Decimal.{signed};
-ghost use Rattle.fractions.specs.Rational.{over, zero_ℚ, one_ℚ, ◌+ℚ◌, ◌-ℚ◌, ◌*ℚ◌, ◌<ℚ◌, neg_ℚ, inverse_of};
+ghost use Rattle.exact_numbers.specs.Rational.{over, zero_ℚ, one_ℚ, ◌+ℚ◌, ◌-ℚ◌, ◌*ℚ◌, ◌<ℚ◌, neg_ℚ, inverse_of};
 ghost use Rattle.exact_numbers.specs.Fraction.{IsFrac, IsLcm};
 ghost use Rattle.exact_numbers.specs.Values.{frac_value, IsFracWhere, IsFracOf, IsQuotientOf, sum_fits, quotient};
 

@@ -6,7 +6,7 @@ ghost use Rattle.exact_numbers.specs.InsideFront.{IsPlain, IsPower, IsFrontDec};
 ghost use Rattle.exact_numbers.specs.Numbers.{dec_of, whole_of, IsUnmarked};
 ghost use Rattle.exact_numbers.specs.Text.{begins_minus, after_sign, is_mark};
 ghost use Rattle.exact_numbers.specs.Values.{dec_value};
-ghost use Rattle.fractions.specs.Rational.{decimal_value};
+ghost use Rattle.exact_numbers.specs.Rational.{decimal_value};
 
 use crate::dec::Dec;
 

@@ -1,6 +1,6 @@
 // Each law is proved by a function with an empty body.
 ghost use Rattle.std.specs.Prelude.{◌≡◌, ◌↔◌, ◌-◌, ◌^◌, pos, true};
-ghost use Rattle.fractions.specs.Rational.{ℚ};
+ghost use Rattle.exact_numbers.specs.Rational.{ℚ};
 ghost use Rattle.exact_numbers.specs.Text.{IsDecText, text_value};
 ghost use Rattle.exact_numbers.specs.Values.{Decimal, dec_value, decimal_of, exponent_of, mantissa_of, text_of, value_text, FitsDec, fits_dec};
 ghost use Rattle.exact_numbers.specs.declared.dec.Dec.{Dec};

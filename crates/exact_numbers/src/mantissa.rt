@@ -1,5 +1,5 @@
 ghost use Rattle.std.specs.Prelude.{◌≡◌, ◌≢◌, ℕ, ◌+◌, ◌*◌, ◌%◌, ◌<◌, ◌≤◌, ◌≤ℤ◌, ◌^◌, MatchOption, SomeIff, unsigned_abs, neg_ℤ, pos, IsTrue, ◌↔◌, ◌*ℤ◌};
-ghost use Rattle.fractions.specs.Rational.{whole, zero_ℚ, ◌*ℚ◌, ◌<ℚ◌, neg_ℚ, decimal_value, IsWhole};
+ghost use Rattle.exact_numbers.specs.Rational.{whole, zero_ℚ, ◌*ℚ◌, ◌<ℚ◌, neg_ℚ, decimal_value, IsWhole};
 ghost use Rattle.exact_numbers.specs.Decimal.{signed};
 ghost use Rattle.exact_numbers.specs.Values.{dec_value, exponent_of, mantissa_of, IsDecOf, IsInReach};
 

@@ -1,6 +1,6 @@
 ghost use Rattle.std.specs.Prelude.{◌≡◌, ℕ, pos, ◌*◌, ◌<◌, ◌≤◌, ◌^◌, unsigned_abs};
 ghost use Rattle.std.specs.Ordering.{nat_cmp, int_cmp};
-ghost use Rattle.fractions.specs.Rational.{above_zero, below_zero};
+ghost use Rattle.exact_numbers.specs.Rational.{above_zero, below_zero};
 ghost use Rattle.exact_numbers.specs.Values.{dec_value, frac_value, order_of};
 
 use crate::dec::Dec;

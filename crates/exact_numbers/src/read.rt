@@ -1,7 +1,7 @@
 ghost use Rattle.std.specs.Prelude.{◌≡◌, ◌≢◌, ℕ, ℤ, pos, ◌+◌, ◌-◌, ◌*◌, ◌%◌, ◌<◌, ◌≤◌, ◌^◌, ◌++◌, ◌-ℤ◌, ◌≤ℤ◌, neg_ℤ, length, drop, take, min, MatchOption, MatchResult, SomeIff, IfSome, IsTrue, ◌↔◌, slice_index};
 ghost use Rattle.std.specs.List.{before_first, after_first, position_or_len};
 ghost use Rattle.std.specs.Str.Parse.{AllDigits, digits_value, digits_value_after};
-ghost use Rattle.fractions.specs.Rational.{decimal_value};
+ghost use Rattle.exact_numbers.specs.Rational.{decimal_value};
 ghost use Rattle.exact_numbers.specs.Decimal.{signed};
 ghost use Rattle.exact_numbers.specs.Values.{dec_value, IsDecOf};
 ghost use Rattle.exact_numbers.specs.Text.{begins_minus, after_sign, is_mark, is_point, IsExponent, exponent_value, IsDecText, text_value, DecFault, IsCapped, cap, IsWholeText, WholeFault};

@@ -1,6 +1,6 @@
 // Sums and products of fractions whose parts have 64 bits, where a division costs little and a product needs no test.
 ghost use Rattle.std.specs.Prelude.{◌≡◌, pos, ◌+◌, ◌*◌, ◌/◌, ◌<◌, ◌≤◌, ◌^◌, true, IfSome, unsigned_abs, ◌*ℤ◌};
-ghost use Rattle.fractions.specs.Rational.{◌+ℚ◌, ◌*ℚ◌};
+ghost use Rattle.exact_numbers.specs.Rational.{◌+ℚ◌, ◌*ℚ◌};
 ghost use Rattle.exact_numbers.specs.Values.{frac_value, fits, sum_fits};
 
 use crate::arithmetic::{paired, small_product};

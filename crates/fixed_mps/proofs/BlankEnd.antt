@@ -2,8 +2,8 @@
 use Rattle.std.proofs.Common.{◌≡◌, ◌∙◌, ℕ, ◌==◌, ◌||◌, cond, List, [], ◌∷◌, ◌++◌, length, take, refl, sym, ap, None}
 use Rattle.std.specs.List.{fold}
 use Rattle.std.proofs.lemmas.List.Sums.{fold-append}
-use Rattle.texts.specs.Judged.{first_reason}
-use Rattle.texts.specs.Words.{is_blank, ends_word, onto_word, words_of}
+use Rattle.text_base.specs.Judged.{first_reason}
+use Rattle.text_base.specs.Words.{is_blank, ends_word, onto_word, words_of}
 use Rattle.mps_reader.specs.Grammar.{standing, standing_of, line_tests, line_reason}
 use Rattle.mps_words.specs.Sections.{Section, sections_of, with_line, with_words}
 use Rattle.mps_reader.specs.Tests.{Standing}

@@ -1,16 +1,20 @@
 -- The free form of a line: it is no longer than the line, and with a space behind it, it is one
 -- that a text can have.
-use Rattle.std.proofs.Common.{◌≡◌, ◌∙◌, ◌⊎◌, inl, inr, ℕ, suc, ◌+◌, ◌-◌, ◌==◌, ◌≤◌, Bool, true, false, not, ◌||◌, cond, List, [], ◌∷◌, ◌++◌, length, take, drop, refl, ap, subst, arith, length-append, length-drop}
+use Rattle.std.proofs.Common.{◌≡◌, ◌∙◌, ◌⊎◌, inl, inr, ℕ, suc, ◌+◌, ◌-◌, ◌==◌, ◌≤◌, Bool, true, false, not, ◌||◌, cond}
+use Rattle.std.proofs.Common.{List, [], ◌∷◌, ◌++◌, length, take, drop, refl, ap, subst, arith, length-append}
+use Rattle.std.proofs.Common.{length-drop}
 use Rattle.std.specs.Prelude.{codes}
 use Rattle.std.specs.List.{AllByRecursion, slice_range, prefix_len, suffix_len}
 use Rattle.std.proofs.lemmas.List.{length-take, take_all, reverse-append}
-use Rattle.texts.proofs.WalkSteps.{no_end-take, no_end-append}
-use Rattle.texts.specs.Cut.{HasNoEnd, IsTextLine}
-use Rattle.texts.specs.Lines.{trimmed}
-use Rattle.texts.specs.Words.{is_blank, ends_word, onto_word, words_of}
+use Rattle.text_base.proofs.WalkSteps.{no_end-take, no_end-append}
+use Rattle.text_base.specs.Cut.{HasNoEnd, IsTextLine}
+use Rattle.text_base.specs.Lines.{trimmed}
+use Rattle.text_base.specs.Words.{is_blank, ends_word, onto_word, words_of}
 use Rattle.mps_words.specs.Sections.{is_left_out}
-use Rattle.texts.proofs.LineLemmas.{no_end-drop}
-use Rattle.fixed_mps.specs.Fields.{free, is_as_it_is, is_misplaced, spaced, has_no_number, kind_field, name_field, row_field, value_field, next_row_field, next_value_field, field_text, value_text, fields_text, columns_text, text_by, cut_text}
+use Rattle.text_base.proofs.LineLemmas.{no_end-drop}
+use Rattle.fixed_mps.specs.Fields.{free, is_as_it_is, is_misplaced, spaced, has_no_number, kind_field, name_field}
+use Rattle.fixed_mps.specs.Fields.{row_field, value_field, next_row_field, next_value_field, field_text, value_text}
+use Rattle.fixed_mps.specs.Fields.{fields_text, columns_text, text_by, cut_text}
 
 -- ---- parts of a line
 

@@ -2,9 +2,9 @@
 use Rattle.std.proofs.Common.{◌≡◌, ◌∙◌, ℕ, ◌+◌, List, [], ◌∷◌, ◌++◌, length, map, refl, sym, ap, subst, OnOk, IfErr, Some, None, true, false}
 use Rattle.std.specs.Prelude.{Result, Ok, Err, take}
 use Rattle.std.proofs.lemmas.List.{length-map, map-append}
-use Rattle.texts.specs.Stopped.{IfFault}
-use Rattle.texts.specs.declared.stop.Stop.{Stop}
-use Rattle.texts.specs.declared.stop.Stop.TheVariants.{Fault, Memory}
+use Rattle.text_base.specs.Stopped.{IfFault}
+use Rattle.text_base.specs.declared.stop.Stop.{Stop}
+use Rattle.text_base.specs.declared.stop.Stop.TheVariants.{Fault, Memory}
 use Rattle.mps_reader.specs.declared.fault.MpsReason.{MpsReason}
 use Rattle.mps_reader.specs.Tests.{Standing}
 use Rattle.mps_reader.specs.Grammar.{standing, line_reason, mps_rules}

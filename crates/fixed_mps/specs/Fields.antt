@@ -2,7 +2,7 @@
 use Rattle.std.specs.Prelude.{ℕ, ◌==◌, Bool, not, ◌||◌, nat_lt, List, [], ◌∷◌, ◌++◌, length, take, slice_range, if◌then◌else◌, codes}
 use Rattle.std.specs.List.{list_any, list_all, flat_map}
 use Rattle.std.specs.Str.{bytes_eq}
-use Rattle.texts.specs.Words.{words_of}
+use Rattle.text_base.specs.Words.{words_of}
 use Rattle.mps_words.specs.Sections.{is_left_out, is_data}
 
 -- ---- Columns, counted from 0: the first one, and the one after the last.

@@ -1,10 +1,10 @@
 // The fields of a line, and its free form.
 ghost use Rattle.std.specs.Prelude.{◌≡◌, ◌++◌, ◌∷◌, [], OnOk, take, length, nat_lt};
-ghost use Rattle.texts.specs.Words.{words_of};
+ghost use Rattle.text_base.specs.Words.{words_of};
 ghost use Rattle.fixed_mps.specs.Fields.{is_as_it_is, bytes_in, is_space_only, has_tab, has_clear_gaps, has_crowded_field, is_misplaced, is_numberless, has_no_number, field_text, names_text, value_text, next_pair_text, fields_text, columns_text, cut_text};
 
 use std::alloc::AllocError;
-use texts::{Row, words};
+use text_base::{Row, words};
 
 // Columns from here on do not count.
 const LAST_COLUMN: usize = 61;

@@ -1,10 +1,10 @@
 // Laws of MPS texts of fixed columns. Each is proved by a function with an empty body.
 ghost use Rattle.std.specs.Prelude.{◌≡◌, ◌≤◌, List, ℕ, length};
-ghost use Rattle.texts.specs.Judged.{HasOneOutcome};
-ghost use Rattle.texts.specs.Reading.{lines_of, last_of};
+ghost use Rattle.text_base.specs.Judged.{HasOneOutcome};
+ghost use Rattle.text_base.specs.Reading.{lines_of, last_of};
 ghost use Rattle.exact_numbers.specs.declared.dec.Dec.{Dec};
 ghost use Rattle.mps_model.specs.Mps.{Mps};
-ghost use Rattle.texts.specs.Cut.{IsTextLine};
+ghost use Rattle.text_base.specs.Cut.{IsTextLine};
 ghost use Rattle.fixed_mps.specs.Fields.{free};
 ghost use Rattle.fixed_mps.specs.Grammar.{fixed_rules, SaysFixed};
 

@@ -1,8 +1,8 @@
 // A reader of MPS texts of fixed columns.
 ghost use Rattle.std.specs.Prelude.{◌≡◌, ◌++◌, List, ℕ, [], IfOk, IfErr, IfSome, OnOk, Err, None};
 ghost use Rattle.std.specs.Result.{result_err};
-ghost use Rattle.texts.specs.Stopped.{IfFault};
-ghost use Rattle.texts.specs.Reading.{IsFreeSoFar};
+ghost use Rattle.text_base.specs.Stopped.{IfFault};
+ghost use Rattle.text_base.specs.Reading.{IsFreeSoFar};
 ghost use Rattle.fixed_mps.specs.Grammar.{fixed_rules};
 ghost use Rattle.fixed_mps.specs.Reader.{IsFed, ReadsFixed, HasFixedFaultSoFar};
 
@@ -11,7 +11,7 @@ use mps_model::Mps;
 use mps_reader::MpsFault;
 use std::alloc::{AllocError, Global};
 use std::marker::Model;
-use texts::{Reader, Stop};
+use text_base::{Reader, Stop};
 
 /// Reads an MPS text of fixed columns that comes in pieces.
 #[derive(Drop)]

@@ -1,5 +1,9 @@
 -- Definitions with their forms, owners in order, the forms of bodies, and the program of a file.
-use Rattle.std.proofs.Common.{◌≡◌, ◌≢◌, ℕ, zero, suc, ◌+◌, ◌-◌, ◌*◌, ◌<◌, ◌≤◌, ◌∙◌, sym, ap, refl, subst, arith, ◌^◌, ⊎_elim, Bool, true, false, ◌||◌, ◌==◌, if◌then◌else◌, Option, Some, None, option_map, List, [], ◌∷◌, ◌++◌, map, length, take, set, get_or, slice_get, length-append, get_or-set_same, get_or-set_other, eq-eqb, ap₂, subst₂, option_and_then, drop, sum_by, drop-cons, All}
+use Rattle.std.proofs.Common.{◌≡◌, ◌≢◌, ℕ, zero, suc, ◌+◌, ◌-◌, ◌*◌, ◌<◌, ◌≤◌, ◌∙◌, sym, ap, refl, subst, arith, ◌^◌}
+use Rattle.std.proofs.Common.{⊎_elim, Bool, true, false, ◌||◌, ◌==◌, if◌then◌else◌, Option, Some, None, option_map}
+use Rattle.std.proofs.Common.{List, [], ◌∷◌, ◌++◌, map, length, take, set, get_or, slice_get, length-append}
+use Rattle.std.proofs.Common.{get_or-set_same, get_or-set_other, eq-eqb, ap₂, subst₂, option_and_then, drop, sum_by}
+use Rattle.std.proofs.Common.{drop-cons, All}
 use Rattle.std.specs.Option.{option_map_or}
 use Rattle.std.proofs.Math.Bool.{or-false as or_false}
 use Rattle.std.proofs.Math.ListN.{length-set}
@@ -9,48 +13,52 @@ use Rattle.std.proofs.lemmas.List.{length-map, length-take-le, map_push, take-ma
 use Rattle.std.proofs.lemmas.Option.{slice_get_read, slice_get_past}
 use Rattle.std.proofs.lemmas.List.Sums.{fold-append, sum_by-append, sum_by-set, sum_by-take-le, sum_by_more, sum_by-cons}
 use Rattle.std.proofs.lemmas.List.Folds.{list_any-append}
-use Rattle.texts.specs.declared.stop.Stop.{Stop}
-use Rattle.texts.specs.declared.stop.Stop.TheVariants.{Fault, Memory}
-use Rattle.program_meaning.specs.Lines.{line_value, Point, constant_line, form_of_line}
-use Rattle.nl_meaning.specs.Trees.{expression_given, tree_size, with_definition, known_values, Tree}
+use Rattle.text_base.specs.declared.stop.Stop.{Stop}
+use Rattle.text_base.specs.declared.stop.Stop.TheVariants.{Fault, Memory}
+use Rattle.linear_program.specs.Lines.{line_value, Point, constant_line, form_of_line}
+use Rattle.nl_model.specs.Trees.{expression_given, tree_size, with_definition, known_values, Tree}
 use Rattle.nl_model.specs.File.{File, Term}
 use Rattle.nl_model.specs.declared.definition.Def.{Def as Definition}
 use Rattle.nl_model.specs.HeaderRules.{defined_count, AreCounts}
 use Rattle.nl_model.specs.Rules.{IsDefinition, is_defined, IsFile}
 use Rattle.nl_model.specs.declared.at.Owner.TheVariants.{Def, Con, Obj}
-use Rattle.file_meaning.specs.Expressions.{definition_of, definitions_of, linear_terms, tree_or_zero, maximises, body_of, objective_of}
-use Rattle.file_meaning.specs.FoldFaults.{Owned, owned_by, no_definition, owners_fault, owned_definition, most_coefficients, owners_of, fold_fault, has_objective, no_such_objective, owned_line}
-use Rattle.program_meaning.specs.Elements.{elements_from}
+use Rattle.nl_model.specs.Expressions.{definition_of, definitions_of, linear_terms, tree_or_zero, maximises, body_of, objective_of}
+use Rattle.nl_model.specs.FoldFaults.{Owned, owned_by, no_definition, owners_fault, owned_definition, most_coefficients, owners_of, fold_fault, has_objective, no_such_objective, owned_line}
+use Rattle.linear_program.specs.Elements.{elements_from}
 use Rattle.linear_fold.specs.declared.fold_fault.FoldFault.{FoldFault}
 use Rattle.linear_program.specs.declared.form.Form.{Form}
 use Rattle.linear_fold.specs.FoldedFaults.{HasFaultPlace, named_fault, nodes_in_all, step_bound, term_total}
 use Rattle.linear_fold.specs.FoldedFile.{AreFoldSteps, FoldsWith, IsFirstFault}
 use Rattle.linear_fold.specs.InsideFolds.{AreKnown, AreSlotsWithin, HasLineOf, IsGiven, IsExpressionFolded}
 use Rattle.linear_program.specs.Forms.{IsWithin, form_line, form_terms}
-use Rattle.linear_fold.specs.InsideOwnerFolds.{AreSlotsOf, HasStopped, HasFolded, IsFormOf, definitions_size, form_count, known_by, AreBodiesOf, bodies_size, coefficients_of, expression_at, owned_at, owner_size, AreFormsOf}
+use Rattle.linear_fold.specs.InsideOwnerFolds.{AreSlotsOf, HasStopped, HasFolded, IsFormOf, definitions_size}
+use Rattle.linear_fold.specs.InsideOwnerFolds.{form_count, known_by, AreBodiesOf, bodies_size, coefficients_of}
+use Rattle.linear_fold.specs.InsideOwnerFolds.{expression_at, owned_at, owner_size, AreFormsOf}
 use Rattle.linear_fold.specs.declared.owners.Folder.{Folder}
 use Rattle.linear_fold.proofs.OwnerLemmas.{definition_at, found_here, linear_folded, owner_count, there, owner_line}
-use Rattle.texts.specs.Stopped.{IfFault}
+use Rattle.text_base.specs.Stopped.{IfFault}
 use Rattle.nl_model.specs.declared.objective.Objective.{Objective}
 use Rattle.linear_fold.specs.declared.entries.Entry.TheVariants.{Linear}
 use Rattle.linear_program.specs.Coefs.{AreAscending, AreBelow}
-use Rattle.fractions.specs.Rational.{zero_ℚ}
+use Rattle.exact_numbers.specs.Rational.{zero_ℚ}
 use Rattle.nl_model.specs.FilePlaces.{terms_at, tree_at}
 use Rattle.linear_fold.proofs.Expressions.{no_terms, zero_folded}
 use Rattle.linear_fold.proofs.Folding.{constant_within}
-use Rattle.program_meaning.specs.Linear.{Row}
+use Rattle.linear_program.specs.Linear.{Row}
 use Rattle.linear_program.specs.declared.interval.Interval.{Interval}
 use Rattle.linear_program.specs.declared.kind.Kind.{Kind}
 use Rattle.nl_model.specs.Kinds.{variable_kind}
 use Rattle.linear_program.specs.Intervals.{IsOrdered, no_sides}
-use Rattle.program_meaning.proofs.Elements.{elements_length}
-use Rattle.file_meaning.specs.LinearFile.{linear_of, linear_row, linear_variable}
+use Rattle.linear_program.proofs.Elements.{elements_length}
+use Rattle.nl_model.specs.LinearFile.{linear_of, linear_row, linear_variable}
 use Rattle.linear_program.specs.Programs.{IsFormOver, IsLinear, LinearValue, linear_value, rows_from, variables_from}
-use Rattle.file_meaning.proofs.Folding.{clean_has_lines}
-use Rattle.file_meaning.proofs.Formed.{file_formed}
+use Rattle.nl_model.proofs.Folding.{clean_has_lines}
+use Rattle.nl_model.proofs.Formed.{file_formed}
 
 -- ---- values of definitions
-pub known_push : (ds : List Definition) (d : Definition) (at : Point) → known_by (ds ++ d ∷ []) at ≡ (λ i. if i == d.index then expression_given (known_by ds at) (definition_of d).expression at else known_by ds at i)
+pub known_push : (ds : List Definition) (d : Definition) (at : Point)
+    → known_by (ds ++ d ∷ []) at ≡ (λ i. if i == d.index then expression_given (known_by ds at)
+    (definition_of d).expression at else known_by ds at i)
 known_push ds d at = ap (λ es. known_values es at) (map_push definition_of ds d) ∙ ap (λ known. known at) (fold-append with_definition (λ x i. None) (map definition_of ds) (definition_of d ∷ []))
 
 -- ---- one more form
@@ -61,7 +69,10 @@ or-false : (a b : Bool) → a || b ≡ false → (a ≡ false) × (b ≡ false)
 or-false true b e = cc
 or-false false b e = (refl, e)
 
-module _ (f : File) (ds : List Definition) (d : Definition) (slots : List (Option Form)) (form : Form) (fine : IsDefinition f.counts.n_var (defined_count f.counts) ds d) (s : AreSlotsOf f ds slots) (within : IsWithin f.counts.n_var form) (values : HasLineOf f.counts.n_var (λ at. expression_given (known_by ds at) (definition_of d).expression at) form) where
+module _ (f : File) (ds : List Definition) (d : Definition) (slots : List (Option Form)) (form : Form)
+    (fine : IsDefinition f.counts.n_var (defined_count f.counts) ds d) (s : AreSlotsOf f ds slots)
+    (within : IsWithin f.counts.n_var form) (values : HasLineOf f.counts.n_var
+    (λ at. expression_given (known_by ds at) (definition_of d).expression at) form) where
   abbrev n : ℕ
   n = f.counts.n_var
 
@@ -90,7 +101,9 @@ module _ (f : File) (ds : List Definition) (d : Definition) (slots : List (Optio
       (λ (apart : k ≢ place). s.within k x (sym (other k apart) ∙ e)) (cases_eq k place)
 
   known_same : (at : Point) → known_by (ds ++ d ∷ []) at d.index ≡ expression_given (known_by ds at) (definition_of d).expression at
-  known_same at = ap (λ w. w d.index) (known_push ds d at) ∙ ap (λ b. if b then expression_given (known_by ds at) (definition_of d).expression at else known_by ds at d.index) (eq-eqb d.index d.index refl)
+  known_same at = ap (λ w. w d.index) (known_push ds d at) ∙ ap
+      (λ b. if b then expression_given (known_by ds at) (definition_of d).expression at else known_by ds at d.index)
+      (eq-eqb d.index d.index refl)
 
   known_other : (at : Point) (i : ℕ) → i ≢ d.index → known_by (ds ++ d ∷ []) at i ≡ known_by ds at i
   known_other at i e = ap (λ w. w i) (known_push ds d at) ∙ ap (λ b. if b then expression_given (known_by ds at) (definition_of d).expression at else known_by ds at i) (ne_eqb i d.index e)
@@ -110,7 +123,9 @@ module _ (f : File) (ds : List Definition) (d : Definition) (slots : List (Optio
         from = g.from;
         below = subst (λ m. i - n < m) (sym (length-set slots place (Some form))) g.below;
         there = λ e.
-            ⊎_elim (λ (same : i - n ≡ place). (let clash : Some form ≡ None = sym here ∙ subst (λ j. get_or slots_now j None ≡ None) same e in cc)) (λ (apart : i - n ≢ place). g.there (sym (other (i - n) apart) ∙ e))
+            ⊎_elim (λ (same : i - n ≡ place). (let clash : Some form ≡ None =
+            sym here ∙ subst (λ j. get_or slots_now j None ≡ None) same e in cc))
+            (λ (apart : i - n ≢ place). g.there (sym (other (i - n) apart) ∙ e))
             (cases_eq (i - n) place);
       }
 
@@ -152,7 +167,8 @@ module _ (f : File) (ds : List Definition) (d : Definition) (slots : List (Optio
 pub count_below : (slots : List (Option Form)) → form_count slots ≤ length slots
 count_below [] = omega arith
 count_below (None ∷ slots) = let r = count_below slots in omega arith
-count_below (Some x ∷ slots) = let r = count_below slots in let e : form_count (Some x ∷ slots) ≡ 1 + form_count slots = sum_by-append (λ s. option_map_or (λ f. 1) s 0) (Some x ∷ []) slots in omega arith
+count_below (Some x ∷ slots) = let r = count_below slots in let e : form_count (Some x ∷ slots) ≡ 1 + form_count slots =
+    sum_by-append (λ s. option_map_or (λ f. 1) s 0) (Some x ∷ []) slots in omega arith
 
 -- ---- the definition at a position
 pub take_next : {A : Type 0} → (xs : List A) (i : ℕ) (x : A) → slice_get xs i ≡ Some x → take (i + 1) xs ≡ take i xs ++ x ∷ []
@@ -168,11 +184,18 @@ module _ (f : File) (file : IsFile f) (i : ℕ) (d : Definition) (is : slice_get
   pub definition_here : IsDefinition f.counts.n_var (defined_count f.counts) (take i f.definitions) d
   definition_here = definition_at f.counts.n_var (defined_count f.counts) [] f.definitions file.definitions i d is
 
-  pub definition_folded : (slots : List (Option Form)) (form : Form) → AreSlotsOf f (take i f.definitions) slots → IsFormOf f (Def i) form → AreSlotsOf f (take (i + 1) f.definitions) (set slots (d.index - f.counts.n_var) (Some form))
+  pub definition_folded : (slots : List (Option Form)) (form : Form) → AreSlotsOf f (take i f.definitions) slots
+      → IsFormOf f (Def i) form → AreSlotsOf f (take (i + 1) f.definitions)
+      (set slots (d.index - f.counts.n_var) (Some form))
   definition_folded slots form s h =
       subst (λ ds. AreSlotsOf f ds (set slots (d.index - f.counts.n_var) (Some form))) (sym (take_next f.definitions i d is))
       (one_more_slot f (take i f.definitions) d slots form definition_here s h.within
-      (subst (λ x. HasLineOf f.counts.n_var (λ at. expression_given (known_by (take i f.definitions) at) (record { tree = tree_or_zero (option_map (λ y. y.tree) x); terms = linear_terms (option_map_or (λ y. y.terms) x []) }) at) form) is h.values))
+      (subst (λ x. HasLineOf f.counts.n_var (λ at. expression_given (known_by (take i f.definitions) at)
+      (record {
+        tree = tree_or_zero (option_map (λ y. y.tree) x);
+        terms =
+            linear_terms (option_map_or (λ y. y.terms) x []);
+      }) at) form) is h.values))
 
   pub definition_owner : owner_size f (Def i) ≡ tree_size d.tree + length d.terms
   definition_owner = ap (λ x. option_map_or tree_size (option_map (λ y. y.tree) x) 0 + length (option_map_or (λ y. y.terms) x [])) is
@@ -219,7 +242,9 @@ module _ (f : File) (before : ℕ) (g : ℕ → Owned) (len : ℕ) where
       let next : suc i ≡ i + 1 = omega arith in
       ap (λ m. elements_from g i m) same ∙ ap (λ j. g i ∷ elements_from g j (len - (i + 1))) next
 
-  pub left_more : (count after i : ℕ) → i < len → LeftOwners f before g len count i → ((rest : List Owned) → owners_fault f.counts.n_var count (g i ∷ rest) ≡ owners_fault f.counts.n_var after rest) → LeftOwners f before g len after (i + 1)
+  pub left_more : (count after i : ℕ) → i < len → LeftOwners f before g len count i
+      → ((rest : List Owned) → owners_fault f.counts.n_var count (g i ∷ rest) ≡ owners_fault f.counts.n_var after rest)
+      → LeftOwners f before g len after (i + 1)
   left_more count after i h l one =
       record {
         left = λ rest. l.left rest ∙ ap (λ os. owners_fault f.counts.n_var count (os ++ rest)) (next_element i h) ∙ one (elements_from g (i + 1) (len - (i + 1)) ++ rest);
@@ -230,7 +255,8 @@ module _ (f : File) (before : ℕ) (g : ℕ → Owned) (len : ℕ) where
       λ rest. ap (option_map (named_fault f)) (l.left rest ∙ ap (λ os. owners_fault f.counts.n_var count (os ++ rest)) (next_element i h)) ∙ one (elements_from g (i + 1) (len - (i + 1)) ++ rest)
   left_stop count i Memory h l one = tt
 
-  pub left_end : (count i : ℕ) → len ≤ i → LeftOwners f before g len count i → (rest : List Owned) → owners_fault f.counts.n_var before (elements_from g 0 len ++ rest) ≡ owners_fault f.counts.n_var count rest
+  pub left_end : (count i : ℕ) → len ≤ i → LeftOwners f before g len count i → (rest : List Owned)
+      → owners_fault f.counts.n_var before (elements_from g 0 len ++ rest) ≡ owners_fault f.counts.n_var count rest
   unfolding elements_from
   left_end count i h l rest =
       let none : len - i ≡ 0 = omega arith in
@@ -269,7 +295,12 @@ body_owned f i = λ q. record { owner = Con i; known = known_by f.definitions; e
 pub objective_owned : (f : File) (k : ℕ) → owned_by f (Obj k) (objective_of f k) ≡ owned_at f (Obj k)
 objective_owned f k = λ q. record { owner = Obj k; known = known_by f.definitions; expression = record { tree = objective_tree f.objectives k q; terms = linear_terms (get_or f.slopes k []) } }
 
-definition_expression : (ds : List Definition) (i : ℕ) → (get_or (map definition_of ds) i no_definition).expression ≡ record { tree = tree_or_zero (option_map (λ x. x.tree) (slice_get ds i)); terms = linear_terms (option_map_or (λ x. x.terms) (slice_get ds i) []) }
+definition_expression : (ds : List Definition) (i : ℕ) → (get_or (map definition_of ds) i no_definition).expression
+    ≡ record {
+      tree = tree_or_zero (option_map (λ x. x.tree) (slice_get ds i));
+      terms =
+          linear_terms (option_map_or (λ x. x.terms) (slice_get ds i) []);
+    }
 definition_expression [] i = refl
 definition_expression (d ∷ ds) zero = refl
 definition_expression (d ∷ ds) (suc i) = definition_expression ds i
@@ -277,10 +308,13 @@ definition_expression (d ∷ ds) (suc i) = definition_expression ds i
 pub definition_owned : (f : File) (i : ℕ) → owned_definition (definitions_of f) i ≡ owned_at f (Def i)
 definition_owned f i = λ q. record { owner = Def i; known = known_values (take-map definition_of i f.definitions q); expression = definition_expression f.definitions i q }
 
-pub owners_are : (f : File) (k : ℕ) → owners_of f k ≡ elements_from (λ j. owned_at f (Def j)) 0 (length f.definitions) ++ (elements_from (λ j. owned_at f (Con j)) 0 f.counts.n_con ++ owned_at f (Obj k) ∷ [])
+pub owners_are : (f : File) (k : ℕ) → owners_of f k ≡ elements_from (λ j. owned_at f (Def j)) 0 (length f.definitions)
+    ++ (elements_from (λ j. owned_at f (Con j)) 0 f.counts.n_con ++ owned_at f (Obj k) ∷ [])
 owners_are f k =
     ap₂ (λ a b. a ++ b)
-    (elements_same (owned_definition (definitions_of f)) (λ j. owned_at f (Def j)) (definition_owned f) 0 (length (definitions_of f)) ∙ ap (elements_from (λ j. owned_at f (Def j)) 0) (length-map f.definitions definition_of))
+    (elements_same (owned_definition (definitions_of f)) (λ j. owned_at f (Def j)) (definition_owned f) 0
+    (length (definitions_of f)) ∙ ap (elements_from (λ j. owned_at f (Def j)) 0)
+    (length-map f.definitions definition_of))
     (ap₂ (λ a b. a ++ b ∷ []) (elements_same (λ j. owned_by f (Con j) (body_of f j)) (λ j. owned_at f (Con j)) (body_owned f) 0 f.counts.n_con) (objective_owned f k))
 
 -- ---- the three parts
@@ -328,7 +362,9 @@ one_more_count bodies b =
 tree_part : (bodies : List (Option Tree)) (i : ℕ) → option_map_or tree_size (option_and_then (λ t. t) (slice_get bodies i)) 0 ≡ option_map_or tree_size (get_or bodies i None) 0
 tree_part bodies i = ap (λ o. option_map_or tree_size o 0) (sym (body_tree bodies i))
 
-pub body_size : (f : File) → IsFile f → (i : ℕ) → i < f.counts.n_con → bodies_size (take (i + 1) f.bodies) (take (i + 1) f.terms) ≡ bodies_size (take i f.bodies) (take i f.terms) + owner_size f (Con i)
+pub body_size : (f : File) → IsFile f → (i : ℕ) → i < f.counts.n_con
+    → bodies_size (take (i + 1) f.bodies) (take (i + 1) f.terms)
+    ≡ bodies_size (take i f.bodies) (take i f.terms) + owner_size f (Con i)
 body_size f file i h =
     let trees = sum_by_more (λ b. option_map_or tree_size b 0) f.bodies i None (subst (λ m. i < m) (sym file.bodies.count) h) in
     let terms = sum_by_more length f.terms i [] (subst (λ m. i < m) (sym file.terms.rows) h) in
@@ -362,11 +398,14 @@ within_total f from new size h k =
     let all = steps_within f.counts.n_var from new size (nodes_in_all f + term_total f) h k in
     omega arith
 
-pub three_parts : (f : File) (k from a b new : ℕ) → a ≤ from + 2 * (f.counts.n_var + 1) * definitions_size f.definitions → b ≤ a + 2 * (f.counts.n_var + 1) * bodies_size f.bodies f.terms → new ≤ b + 2 * (f.counts.n_var + 1) * owner_size f (Obj k) → new ≤ from + step_bound f
+pub three_parts : (f : File) (k from a b new : ℕ) → a ≤ from + 2 * (f.counts.n_var + 1) * definitions_size f.definitions
+    → b ≤ a + 2 * (f.counts.n_var + 1) * bodies_size f.bodies f.terms
+    → new ≤ b + 2 * (f.counts.n_var + 1) * owner_size f (Obj k) → new ≤ from + step_bound f
 three_parts f k from a b new first second third =
     let n = f.counts.n_var in
     within_total f from new (definitions_size f.definitions + bodies_size f.bodies f.terms + owner_size f (Obj k)) (parts_within f k)
-    (steps_more n from b new (definitions_size f.definitions + bodies_size f.bodies f.terms) (owner_size f (Obj k)) (steps_more n from a b (definitions_size f.definitions) (bodies_size f.bodies f.terms) first second) third)
+    (steps_more n from b new (definitions_size f.definitions + bodies_size f.bodies f.terms) (owner_size f (Obj k))
+    (steps_more n from a b (definitions_size f.definitions) (bodies_size f.bodies f.terms) first second) third)
 
 -- ---- the objective of a file without objectives
 module _ (f : File) (file : IsFile f) (k : ℕ) (form : Form) (past : f.counts.n_obj ≤ k) (line : form_line form ≡ constant_line zero_ℚ) (none : form_terms form ≡ []) where
@@ -402,7 +441,13 @@ module _ (f : File) where
   rows_are i [] all e = refl
   rows_are i (b ∷ bodies) all e =
       ap (rows_from i (b ∷ bodies)) (drop-cons f.sides i no_sides (omega arith))
-      ∙ ap₂ (λ (r : Row) rs. r ∷ rs) (λ q. record { name = (linear_row f i).name; body = form_of_line (body_line i b all.0 q); side = (linear_row f i).side }) (rows_are (suc i) bodies all.1 (omega arith))
+      ∙ ap₂ (λ (r : Row) rs. r ∷ rs) (λ q. record {
+        name = (linear_row f i).name;
+        body =
+            form_of_line (body_line i b all.0 q);
+        side = (linear_row f i).side;
+      })
+      (rows_are (suc i) bodies all.1 (omega arith))
 
   variables_are : (m j : ℕ) → j + m ≡ length f.bounds → variables_from j (drop j f.bounds) (elements_from (variable_kind f.counts) j m) ≡ elements_from (linear_variable f) j m
   unfolding elements_from
@@ -420,7 +465,9 @@ module _ (f : File) (file : IsFile f) (k : ℕ) (bodies : List Form) (objective 
   abbrev value_here : Bool → List Interval → List Interval → List Kind → LinearValue
   value_here maximise sides bounds kinds = record { bodies = bodies; objective = objective; number = k; maximise = maximise; sides = sides; bounds = bounds; kinds = kinds }
 
-  module _ (maximise : Bool) (sides bounds : List Interval) (kinds : List Kind) (sense : maximise ≡ maximises f k) (sides_is : sides ≡ f.sides) (bounds_is : bounds ≡ f.bounds) (kinds_is : kinds ≡ elements_from (variable_kind f.counts) 0 f.counts.n_var) where
+  module _ (maximise : Bool) (sides bounds : List Interval) (kinds : List Kind) (sense : maximise ≡ maximises f k)
+      (sides_is : sides ≡ f.sides) (bounds_is : bounds ≡ f.bounds)
+      (kinds_is : kinds ≡ elements_from (variable_kind f.counts) 0 f.counts.n_var) where
     pub is_linear : AreCounts f.counts → IsLinear (value_here maximise sides bounds kinds)
     is_linear counts =
         let width : length bounds ≡ f.counts.n_var = ap length bounds_is ∙ file.bound_count in
@@ -456,7 +503,9 @@ pub no_objective_there : (f : File) (k : ℕ) → has_objective f k ≡ false �
 unfolding fold_fault
 no_objective_there f k e = ap (λ b. if b then owners_fault f.counts.n_var 0 (owners_of f k) else Some (no_such_objective k)) e
 
-pub owners_stopped : (f : File) (k : ℕ) (s : Stop FoldFault) → has_objective f k ≡ true → IfFault s (λ x. option_map (named_fault f) (owners_fault f.counts.n_var 0 (owners_of f k)) ≡ Some x) → IfFault s (HasFaultPlace f) → IfFault s (IsFirstFault f k)
+pub owners_stopped : (f : File) (k : ℕ) (s : Stop FoldFault) → has_objective f k ≡ true
+    → IfFault s (λ x. option_map (named_fault f) (owners_fault f.counts.n_var 0 (owners_of f k)) ≡ Some x)
+    → IfFault s (HasFaultPlace f) → IfFault s (IsFirstFault f k)
 owners_stopped f k (Fault x) e h there = record { first = ap (option_map (named_fault f)) (fault_of_owners f k e) ∙ h; place = there }
 owners_stopped f k Memory e h there = tt
 

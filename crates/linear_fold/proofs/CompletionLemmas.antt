@@ -21,7 +21,9 @@ pub closed_is : (r : Form) (k : Frac) (ts : List Term) → is_open r ≡ false �
 closed_is r k ts o e f = let same = closed_kept r.kept k ts o e f in λ i. record { kept = same i }
 
 -- ---- one body more
-pub completed_push : (hs : List Bool) (tss : List (List DecimalTerm)) (bs : List Form) (h : Bool) (b : Form) → length hs ≡ length bs → length bs < length tss → completed (hs ++ h ∷ []) tss (bs ++ b ∷ []) ≡ completed hs tss bs ++ completed_form h (get_or tss (length bs) []) b ∷ []
+pub completed_push : (hs : List Bool) (tss : List (List DecimalTerm)) (bs : List Form) (h : Bool) (b : Form)
+    → length hs ≡ length bs → length bs < length tss → completed (hs ++ h ∷ []) tss (bs ++ b ∷ [])
+    ≡ completed hs tss bs ++ completed_form h (get_or tss (length bs) []) b ∷ []
 completed_push [] [] bs h b n l = absurd (omega (arith, l))
 completed_push [] (ts ∷ tss) [] h b n l = refl
 completed_push [] (ts ∷ tss) (x ∷ bs) h b n l = absurd (omega (arith, n))
@@ -29,7 +31,8 @@ completed_push (g ∷ hs) [] bs h b n l = absurd (omega (arith, l))
 completed_push (g ∷ hs) (ts ∷ tss) [] h b n l = absurd (omega (arith, n))
 completed_push (g ∷ hs) (ts ∷ tss) (x ∷ bs) h b n l = ap (λ xs. completed_form g ts x ∷ xs) (completed_push hs tss bs h b (omega (arith, n)) (omega (arith, l)))
 
-pub still_push : (hs : List Bool) (tss : List (List DecimalTerm)) (h : Bool) → length hs < length tss → AreStillDecimals hs tss → IsStillDecimal h (get_or tss (length hs) []) → AreStillDecimals (hs ++ h ∷ []) tss
+pub still_push : (hs : List Bool) (tss : List (List DecimalTerm)) (h : Bool) → length hs < length tss
+    → AreStillDecimals hs tss → IsStillDecimal h (get_or tss (length hs) []) → AreStillDecimals (hs ++ h ∷ []) tss
 still_push [] [] h l a s = absurd (omega (arith, l))
 still_push [] (ts ∷ tss) h l a s = (s, tt)
 still_push (g ∷ hs) [] h l a s = absurd (omega (arith, l))

@@ -1,5 +1,7 @@
 -- The operators that want constants.
-use Rattle.std.proofs.Common.{◌≡◌, ℕ, zero, suc, ◌+◌, ◌*◌, ◌/◌, ◌-◌, ◌^◌, ◌<◌, ◌∙◌, sym, ap, refl, subst, subst₂, arith, mul-pos, Bool, true, false, cond, ◌&&◌, ℤ, pos, negsuc, ◌*ℤ◌, ◌<ℤ◌, ◌≤ℤ◌, unsigned_abs, Some, None, option_map, List, [], ◌∷◌, map, if◌then◌else◌, lit<}
+use Rattle.std.proofs.Common.{◌≡◌, ℕ, zero, suc, ◌+◌, ◌*◌, ◌/◌, ◌-◌, ◌^◌, ◌<◌, ◌∙◌, sym, ap, refl, subst, subst₂, arith}
+use Rattle.std.proofs.Common.{mul-pos, Bool, true, false, cond, ◌&&◌, ℤ, pos, negsuc, ◌*ℤ◌, ◌<ℤ◌, ◌≤ℤ◌, unsigned_abs}
+use Rattle.std.proofs.Common.{Some, None, option_map, List, [], ◌∷◌, map, if◌then◌else◌, lit<}
 use Rattle.std.specs.Int.{int_div_euclid}
 use Rattle.std.specs.declared.cmp.Ordering.TheVariants.{Less, Equal, Greater}
 use Rattle.std.proofs.Math.Nat.{pow-succ', pow-zero, zero-mul}
@@ -8,20 +10,20 @@ use Rattle.std.proofs.lemmas.Int.{ints, unsigned_abs-mul}
 use Rattle.exact_numbers.specs.declared.frac.Frac.{Frac}
 use Rattle.exact_numbers.specs.Values.{frac_value, order_of}
 use Rattle.exact_numbers.proofs.Bridge.{whole_fits as whole_small}
-use Rattle.fractions.specs.Divisors.{AreCoprime}
-use Rattle.fractions.specs.LowestLemmas.{coprime-swap}
-use Rattle.fractions.specs.Fits.{fits}
-use Rattle.fractions.specs.Functions.{exponent_of, or_zero, power_of, is_smaller, lesser_of, greater_of, least_of, greatest_of, floor_of, ceiling_of, absolute_of}
+use Rattle.exact_numbers.specs.Divisors.{AreCoprime}
+use Rattle.exact_numbers.specs.LowestLemmas.{coprime-swap}
+use Rattle.exact_numbers.specs.Fits.{fits}
+use Rattle.exact_numbers.specs.Functions.{exponent_of, or_zero, power_of, is_smaller, lesser_of, greater_of, least_of, greatest_of, floor_of, ceiling_of, absolute_of}
 use lib.IntN.{*ℤ-one, zero-*ℤ}
-use Rattle.fractions.specs.Rational.{ℚ, whole, ◌<ℚ◌, over, zero_ℚ, one_ℚ, ◌*ℚ◌, neg_ℚ}
-use Rattle.fractions.proofs.Coprimes.{coprime-mul, coprime-pow}
-use Rattle.fractions.proofs.Extremes.{absolute_above, absolute_below, power_of-suc, power_of-zero}
-use Rattle.fractions.proofs.Arithmetic.{over_lowest, zero_value, over_whole}
-use Rattle.fractions.proofs.Values.{own_value, value_le, value_lt}
-use Rattle.program_meaning.specs.Lines.{constant_line, Line, is_constant, are_constant, constants_of}
-use Rattle.nl_meaning.specs.Faults.{constants_line, operator_fault, operator_line, power_fault, too_wide_unless}
-use Rattle.nl_meaning.specs.declared.Reason.TheVariants.{Nonlinear, RefusedPower, TooWide}
-use Rattle.nl_meaning.specs.Trees.{applied, rule_of}
+use Rattle.exact_numbers.specs.Rational.{ℚ, whole, ◌<ℚ◌, over, zero_ℚ, one_ℚ, ◌*ℚ◌, neg_ℚ}
+use Rattle.exact_numbers.proofs.Coprimes.{coprime-mul, coprime-pow}
+use Rattle.exact_numbers.proofs.Extremes.{absolute_above, absolute_below, power_of-suc, power_of-zero}
+use Rattle.exact_numbers.proofs.RationalLaws.{over_lowest, zero_value, over_whole}
+use Rattle.exact_numbers.proofs.Values.{own_value, value_le, value_lt}
+use Rattle.linear_program.specs.Lines.{constant_line, Line, is_constant, are_constant, constants_of}
+use Rattle.nl_model.specs.Faults.{constants_line, operator_fault, operator_line, power_fault, too_wide_unless}
+use Rattle.nl_model.specs.declared.fault.Reason.TheVariants.{Nonlinear, RefusedPower, TooWide}
+use Rattle.nl_model.specs.Trees.{applied, rule_of}
 use Rattle.code_tables.specs.declared.class.OpClass.{OpClass}
 use Rattle.code_tables.specs.declared.class.OpClass.TheVariants.{Greatest, Least, Power}
 use Rattle.linear_fold.specs.declared.parts.PartialForm.{PartialForm}
@@ -102,7 +104,8 @@ power_first x = power_of-zero x
 pub power_next : (x : ℚ) (n : ℕ) → power_of x (n + 1) ≡ x *ℚ power_of x n
 power_next x n = ap (power_of x) (omega arith) ∙ power_of-suc x n
 
-product_parts : (x y : ℚ) → AreCoprime (unsigned_abs x.top * unsigned_abs y.top) (x.bottom * y.bottom) → (unsigned_abs (x *ℚ y).top ≡ unsigned_abs x.top * unsigned_abs y.top) × ((x *ℚ y).bottom ≡ x.bottom * y.bottom)
+product_parts : (x y : ℚ) → AreCoprime (unsigned_abs x.top * unsigned_abs y.top) (x.bottom * y.bottom)
+    → (unsigned_abs (x *ℚ y).top ≡ unsigned_abs x.top * unsigned_abs y.top) × ((x *ℚ y).bottom ≡ x.bottom * y.bottom)
 unfolding ◌*ℚ◌
 product_parts x y h =
     let sizes = unsigned_abs-mul x.top y.top in
@@ -119,7 +122,10 @@ power_parts x (suc n) =
     let b = x.bottom in
     let first : AreCoprime a (b * b ^ n) = coprime-mul a b (b ^ n) x.lowest (coprime-pow a b n x.lowest) in
     let second : AreCoprime (b * b ^ n) (a * a ^ n) = coprime-mul (b * b ^ n) a (a ^ n) (coprime-swap a (b * b ^ n) first) (coprime-pow (b * b ^ n) a n (coprime-swap a (b * b ^ n) first)) in
-    let whole_parts = product_parts x (power_of x n) (subst (λ u. AreCoprime (unsigned_abs x.top * u) (x.bottom * (power_of x n).bottom)) (sym r.0) (subst (λ v. AreCoprime (unsigned_abs x.top * unsigned_abs x.top ^ n) (x.bottom * v)) (sym r.1) (coprime-swap (b * b ^ n) (a * a ^ n) second))) in
+    let whole_parts = product_parts x (power_of x n) (subst
+    (λ u. AreCoprime (unsigned_abs x.top * u) (x.bottom * (power_of x n).bottom)) (sym r.0)
+    (subst (λ v. AreCoprime (unsigned_abs x.top * unsigned_abs x.top ^ n) (x.bottom * v)) (sym r.1)
+    (coprime-swap (b * b ^ n) (a * a ^ n) second))) in
     (whole_parts.0 ∙ ap (λ u. a * u) r.0 ∙ sym (pow-succ' a n), whole_parts.1 ∙ ap (λ v. b * v) r.1 ∙ sym (pow-succ' b n))
 
 shrink : (a p m : ℕ) → 0 < a → a * p < m → p < m
@@ -174,10 +180,14 @@ floor_under x y h e =
     e ∙ ap whole (under_case (λ t. negsuc ((unsigned_abs t - 1) / x.bottom) ≡ int_div_euclid t (pos x.bottom)) (λ n. ap (λ k. negsuc (k / x.bottom)) (omega arith)) x.top h)
 
 -- ---- what constants come to
-pub made_of : (n : ℕ) (c : OpClass) (ls : List Line) (v : ℚ) → are_constant n ls ≡ true → applied (rule_of c) (constants_of ls) ≡ Some v → ((if are_constant n ls then None else Some Nonlinear) ≡ None) × (constant_line v ≡ constants_line c ls) × Unit {0}
+pub made_of : (n : ℕ) (c : OpClass) (ls : List Line) (v : ℚ) → are_constant n ls ≡ true
+    → applied (rule_of c) (constants_of ls) ≡ Some v → ((if are_constant n ls then None else Some Nonlinear) ≡ None)
+    × (constant_line v ≡ constants_line c ls) × Unit {0}
 made_of n c ls v e f = (ap (λ b. if b then None else Some Nonlinear) e, ap (λ o. constant_line (or_zero o)) (sym f), tt)
 
-pub best_made : (b : Bool) (n : ℕ) (ls : List Line) (v : ℚ) → are_constant n ls ≡ true → applied (rule_of (best_class b)) (constants_of ls) ≡ Some v → (operator_fault n (best_class b) ls ≡ None) × (constant_line v ≡ operator_line n (best_class b) ls) × Unit {0}
+pub best_made : (b : Bool) (n : ℕ) (ls : List Line) (v : ℚ) → are_constant n ls ≡ true
+    → applied (rule_of (best_class b)) (constants_of ls) ≡ Some v
+    → (operator_fault n (best_class b) ls ≡ None) × (constant_line v ≡ operator_line n (best_class b) ls) × Unit {0}
 best_made true n ls v e f = made_of n Least ls v e f
 best_made false n ls v e f = made_of n Greatest ls v e f
 
@@ -185,7 +195,9 @@ pub best_varies : (b : Bool) (n : ℕ) (ls : List Line) → are_constant n ls �
 best_varies true n ls e = ap (λ b. if b then None else Some Nonlinear) e
 best_varies false n ls e = ap (λ b. if b then None else Some Nonlinear) e
 
-pub one_made : (n : ℕ) (c : OpClass) (l : Line) (v : ℚ) → true ≡ is_constant n l → Some v ≡ applied (rule_of c) (l.constant ∷ []) → ((if are_constant n (l ∷ []) then None else Some Nonlinear) ≡ None) × (constant_line v ≡ constants_line c (l ∷ [])) × Unit {0}
+pub one_made : (n : ℕ) (c : OpClass) (l : Line) (v : ℚ) → true ≡ is_constant n l
+    → Some v ≡ applied (rule_of c) (l.constant ∷ []) → ((if are_constant n (l ∷ []) then None else Some Nonlinear) ≡ None)
+    × (constant_line v ≡ constants_line c (l ∷ [])) × Unit {0}
 one_made n c l v e f = made_of n c (l ∷ []) v (and_from _ _ (sym e) refl) (sym f)
 
 -- ---- the least of many, or the greatest
@@ -230,7 +242,9 @@ module _ (b : Bool) (first cur new : ℚ) (x : PartialForm) (left rest all : Lis
         unbroken = o.unbroken.1;
       }
 
-pub best_found : (b : Bool) (first : ℚ) (v : Frac) (x : PartialForm) (left fs all : List PartialForm) → left ≡ [] → all ≡ x ∷ fs → first ≡ (part_line x).constant → Choosing b first (frac_value v) left all → (n : ℕ) → AreOperands n all → IsValueOf n (best_class b) all (Some v)
+pub best_found : (b : Bool) (first : ℚ) (v : Frac) (x : PartialForm) (left fs all : List PartialForm) → left ≡ []
+    → all ≡ x ∷ fs → first ≡ (part_line x).constant → Choosing b first (frac_value v) left all → (n : ℕ)
+    → AreOperands n all → IsValueOf n (best_class b) all (Some v)
 best_found b first v x left fs all none is start h n z =
     let k = (part_line x).constant in
     let ks = constants_of (map part_line fs) in
@@ -238,7 +252,8 @@ best_found b first v x left fs all none is start h n z =
     let value : frac_value v ≡ best_of b k ks = sym (best_none b (frac_value v)) ∙ o.value ∙ best_more b first k ks ∙ ap (λ y. best_of b y ks) (ap (λ y. better_of b y k) start ∙ better_same b k) in
     subst (λ a. IsValueOf n (best_class b) a (Some v)) (sym is) (sym (o.tests n (subst (AreOperands n) is z)).0, best_value b k ks ∙ ap Some (sym value))
 
-pub first_varies : (n : ℕ) (x : PartialForm) (fs all : List PartialForm) → all ≡ x ∷ fs → AreOperands n all → ((m : ℕ) → IsOperand m x → is_constant m (part_line x) ≡ false) → are_constant n (map part_line all) ≡ false
+pub first_varies : (n : ℕ) (x : PartialForm) (fs all : List PartialForm) → all ≡ x ∷ fs → AreOperands n all
+    → ((m : ℕ) → IsOperand m x → is_constant m (part_line x) ≡ false) → are_constant n (map part_line all) ≡ false
 first_varies n x fs all is z t =
     ap (λ a. are_constant n (map part_line a)) is ∙ ap (λ b. b && are_constant n (map part_line fs)) (t n (subst (AreOperands n) is z).0)
 
@@ -265,7 +280,9 @@ module _ (n : ℕ) (a b : Line) (ca : is_constant n a ≡ true) (cb : is_constan
   power_too_wide x y k d e g w =
       fault_first _ _ _ both ∙ ap (power_fault a.constant) (ap exponent_of (sym e) ∙ g) ∙ ap too_wide_unless (ap (λ z. fits (power_of z k)) (sym d) ∙ w)
 
-  pub power_made : (x y v : ℚ) (k : ℕ) → x ≡ a.constant → y ≡ b.constant → exponent_of y ≡ Some k → fits (power_of x k) ≡ true → v ≡ power_of x k → (operator_fault n Power (a ∷ b ∷ []) ≡ None) × (constant_line v ≡ operator_line n Power (a ∷ b ∷ [])) × Unit {0}
+  pub power_made : (x y v : ℚ) (k : ℕ) → x ≡ a.constant → y ≡ b.constant → exponent_of y ≡ Some k
+      → fits (power_of x k) ≡ true → v ≡ power_of x k → (operator_fault n Power (a ∷ b ∷ []) ≡ None)
+      × (constant_line v ≡ operator_line n Power (a ∷ b ∷ [])) × Unit {0}
   power_made x y v k d e g w is = (
     fault_first _ _ _ both ∙ ap (power_fault a.constant) (ap exponent_of (sym e) ∙ g) ∙ ap too_wide_unless (ap (λ z. fits (power_of z k)) (sym d) ∙ w),
     ap constant_line (is ∙ ap (λ z. power_of z k) d) ∙ ap (λ o. constant_line (or_zero o)) (ap (option_map (power_of a.constant)) (sym g ∙ ap exponent_of e)),

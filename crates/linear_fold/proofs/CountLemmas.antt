@@ -2,11 +2,11 @@
 use Rattle.std.proofs.Common.{◌≡◌, ◌≢◌, ℕ, zero, suc, ◌+◌, ◌<◌, ◌∙◌, sym, ap, ap₂, refl, arith, ⊎_elim, if◌then◌else◌, List, [], ◌∷◌, length}
 use Rattle.std.proofs.lemmas.Bool.{cases_eq, false_from_ne_true}
 use Rattle.exact_numbers.specs.Values.{frac_value}
-use Rattle.fractions.specs.Rational.{ℚ, zero_ℚ}
-use Rattle.fractions.proofs.Arithmetic.{zero-is_zero}
-use Rattle.program_meaning.specs.Lines.{Line, is_zero}
-use Rattle.program_meaning.proofs.LineLemmas.{is_zero-true}
-use Rattle.file_meaning.specs.FoldFaults.{coefficient_count}
+use Rattle.exact_numbers.specs.Rational.{ℚ, zero_ℚ}
+use Rattle.exact_numbers.proofs.RationalLaws.{zero-is_zero}
+use Rattle.linear_program.specs.Lines.{Line, is_zero}
+use Rattle.linear_program.proofs.LineLemmas.{is_zero-true}
+use Rattle.nl_model.specs.FoldFaults.{coefficient_count}
 use Rattle.linear_program.specs.declared.form.Form.{Form}
 use Rattle.linear_program.specs.Coefs.{Term, AreAscending, AreBelow, coef_in, value_or_zero}
 use Rattle.linear_program.specs.Forms.{IsWithin, form_line, form_terms, kept_constant}
@@ -62,7 +62,9 @@ pub list_count : (n : ℕ) (c : ℚ) (low : ℕ) (ts : List Term) → AreAscendi
 list_count n c low [] a b = count_zero n (line_of_terms c []) (λ j h. refl)
 list_count n c low (t ∷ ts) a b =
     let there : coef_in (t ∷ ts) t.0 ≡ frac_value t.1 = ap value_or_zero (found_same t ts t.0 refl) in
-    count_more n (line_of_terms c (t ∷ ts)) (line_of_terms c ts) t.0 b.0 (λ z. a.1 (sym there ∙ z)) (ap value_or_zero (found_before (suc t.0) ts t.0 a.2 (omega arith))) (λ j e. ap value_or_zero (found_apart t ts j e))
+    count_more n (line_of_terms c (t ∷ ts)) (line_of_terms c ts) t.0 b.0 (λ z. a.1 (sym there ∙ z))
+    (ap value_or_zero (found_before (suc t.0) ts t.0 a.2 (omega arith)))
+    (λ j e. ap value_or_zero (found_apart t ts j e))
     ∙ ap suc (list_count n c (suc t.0) ts a.2 b.1)
 
 -- ---- forms

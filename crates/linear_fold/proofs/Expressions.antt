@@ -1,18 +1,20 @@
 -- Terms that ascend, and trees with their terms.
-use Rattle.std.proofs.Common.{◌≡◌, ◌≢◌, ℕ, suc, ◌+◌, ◌<◌, ◌≤◌, ◌∙◌, sym, ap, refl, subst, arith, true, false, ◌&&◌, Some, None, List, [], ◌∷◌, ◌++◌, drop, length, zero, ◌*◌, ap₂, Option, Ok, Err, length-append, get_or, pos}
+use Rattle.std.proofs.Common.{◌≡◌, ◌≢◌, ℕ, suc, ◌+◌, ◌<◌, ◌≤◌, ◌∙◌, sym, ap, refl, subst, arith, true, false, ◌&&◌}
+use Rattle.std.proofs.Common.{Some, None, List, [], ◌∷◌, ◌++◌, drop, length, zero, ◌*◌, ap₂, Option, Ok, Err}
+use Rattle.std.proofs.Common.{length-append, get_or, pos}
 use Rattle.std.specs.Option.{option_or}
 use Rattle.std.proofs.lemmas.Bool.{and_from}
 use Rattle.exact_numbers.specs.declared.frac.Frac.{Frac}
 use Rattle.exact_numbers.specs.Values.{frac_value}
-use Rattle.fractions.specs.Fits.{fits, sum_fits}
-use Rattle.fractions.specs.Rational.{ℚ, zero_ℚ, ◌+ℚ◌, one_ℚ, ◌*ℚ◌}
-use Rattle.fractions.proofs.Arithmetic.{zero-+ℚ, *ℚ_zero, +ℚ_zero}
-use Rattle.nl_meaning.specs.declared.Fault.{Fault}
-use Rattle.nl_meaning.specs.Faults.{fault_at, too_wide_unless, line_with_terms, terms_fault, tree_fault}
-use Rattle.program_meaning.specs.Lines.{line_with, Line, line_value, constant_line, products_fit, Point}
-use Rattle.nl_meaning.specs.Trees.{LinearTerm, Known, Tree, Trees, AreTermsBelow, tree_size, trees_size, tree_given, number}
+use Rattle.exact_numbers.specs.Fits.{fits, sum_fits}
+use Rattle.exact_numbers.specs.Rational.{ℚ, zero_ℚ, ◌+ℚ◌, one_ℚ, ◌*ℚ◌}
+use Rattle.exact_numbers.proofs.RationalLaws.{zero-+ℚ, *ℚ_zero, +ℚ_zero}
+use Rattle.nl_model.specs.declared.fault.Fault.{Fault}
+use Rattle.nl_model.specs.Faults.{fault_at, too_wide_unless, line_with_terms, terms_fault, tree_fault}
+use Rattle.linear_program.specs.Lines.{line_with, Line, line_value, constant_line, products_fit, Point}
+use Rattle.nl_model.specs.Trees.{LinearTerm, Known, Tree, Trees, AreTermsBelow, tree_size, trees_size, tree_given, number}
 use Rattle.nl_model.specs.File.{Term as FileTerm}
-use Rattle.file_meaning.specs.Expressions.{linear_terms}
+use Rattle.nl_model.specs.Expressions.{linear_terms}
 use Rattle.linear_program.specs.Coefs.{Term, found, value_or_zero, coef_in, AreAscending, AreBelow}
 use Rattle.linear_fold.specs.InsideLinearTerms.{AreStrictlyAscending, AreZeroTerms}
 use Rattle.linear_program.proofs.Closing.{found_last, found_other}
@@ -23,11 +25,11 @@ use Rattle.linear_program.specs.Decimals.{DecimalTerm, AreDecimals}
 use Rattle.linear_program.proofs.DecimalLemmas.{AllFit}
 use Rattle.std.proofs.lemmas.List.{drop_more}
 use Rattle.std.proofs.lemmas.List.Elements.{All-head, All-tail}
-use Rattle.texts.specs.declared.stop.Stop.{Stop}
-use Rattle.texts.specs.declared.stop.Stop.TheVariants.{Fault as Stopped}
+use Rattle.text_base.specs.declared.stop.Stop.{Stop}
+use Rattle.text_base.specs.declared.stop.Stop.TheVariants.{Fault as Stopped}
 use Rattle.exact_numbers.proofs.Bridge.{zero_decimal}
-use Rattle.nl_meaning.proofs.Linear.{terms_added}
-use Rattle.program_meaning.proofs.LineLemmas.{apart-eqb}
+use Rattle.nl_model.proofs.Linear.{terms_added}
+use Rattle.linear_program.proofs.LineLemmas.{apart-eqb}
 use Rattle.nl_model.specs.declared.node.Node.{Node}
 use Rattle.nl_model.specs.Nodes.{IsPrefix, a_number, a_variable, a_defined, an_operation, ArePrefixes, no_tree, one_more}
 use Rattle.nl_model.specs.Rules.{AreTermsBelow as AreFileTermsBelow}
@@ -97,7 +99,9 @@ nothing_listed a i [] f z = (refl, refl)
 nothing_listed a i (t ∷ ts) f z =
     let same : a ≡ line_with a t.variable t.factor = same_line a (line_with a t.variable t.factor) refl (nothing_added a.coef t.variable t.factor z.0) in
     let rest = nothing_listed a (i + 1) ts f z.1 in
-    let fine : fits t.factor && sum_fits (a.coef t.variable) t.factor ≡ true = and_from _ _ (ap fits z.0 ∙ fits_zero) (ap (sum_fits (a.coef t.variable)) z.0 ∙ sum_fits_zero (a.coef t.variable) (f t.variable)) in (
+    let fine : fits t.factor && sum_fits (a.coef t.variable) t.factor ≡ true =
+    and_from _ _ (ap fits z.0 ∙ fits_zero) (ap (sum_fits (a.coef t.variable)) z.0
+    ∙ sum_fits_zero (a.coef t.variable) (f t.variable)) in (
       ap (λ b. option_or (fault_at i (too_wide_unless b)) (terms_fault (line_with a t.variable t.factor) (i + 1) ts)) fine ∙ ap (λ l. terms_fault l (i + 1) ts) (sym same) ∙ rest.0,
       rest.1 ∙ ap (λ l. line_with_terms l ts) same,
     )
@@ -171,7 +175,9 @@ module _ (known : Point → Known) (n : ℕ) (tree : Tree) (form : Form) (folded
       subst (λ us. IsExpressionFolded known n (record { tree = tree; terms = linear_terms us }) (Linear form)) (sym e)
       (ap (λ f. option_or f None) folded.0, terms_added n known (record { tree = tree; terms = [] }) (form_line form) tt folded.1)
 
-  pub some_terms : (ts : List LinearTerm) (first : ℕ) (e : Entry) → IsWithin n form → tree_size tree ≡ first → AreTermsBelow n ts → ComesToTerms (form_line form) first ts e → IsExpressionFolded known n (record { tree = tree; terms = ts }) e
+  pub some_terms : (ts : List LinearTerm) (first : ℕ) (e : Entry) → IsWithin n form → tree_size tree ≡ first
+      → AreTermsBelow n ts → ComesToTerms (form_line form) first ts e
+      → IsExpressionFolded known n (record { tree = tree; terms = ts }) e
   some_terms ts first (Linear g) within size below h =
       let line = is_line_of n (λ at. tree_given (known at) tree at) form within folded.1 in (
         ap₂ option_or folded.0 (ap₂ (λ l i. terms_fault l i ts) (sym line) size ∙ h.0),
@@ -204,7 +210,9 @@ first_none : (o rest : Option Fault) → option_or o None ≡ None → option_or
 first_none None rest e = refl
 first_none (Some x) rest e = cc
 
-pub fault_past : (a new : Line) (i : ℕ) (t : LinearTerm) (ts : List LinearTerm) → (terms_fault a i (t ∷ []) ≡ None) × (new ≡ line_with_terms a (t ∷ [])) → terms_fault a i (t ∷ ts) ≡ terms_fault new (i + 1) ts
+pub fault_past : (a new : Line) (i : ℕ) (t : LinearTerm) (ts : List LinearTerm)
+    → (terms_fault a i (t ∷ []) ≡ None) × (new ≡ line_with_terms a (t ∷ []))
+    → terms_fault a i (t ∷ ts) ≡ terms_fault new (i + 1) ts
 fault_past a new i t ts h =
     first_none (fault_at i (too_wide_unless (fits t.factor && sum_fits (a.coef t.variable) t.factor))) (terms_fault (line_with a t.variable t.factor) (i + 1) ts) h.0
     ∙ ap (λ m. terms_fault m (i + 1) ts) (sym h.1)

@@ -1,5 +1,7 @@
 -- What the entries of a fold come to, and stacks with the top at the end.
-use Rattle.std.proofs.Common.{◌≡◌, ℕ, zero, suc, ◌+◌, ◌<◌, ◌≤◌, ◌∙◌, sym, ap, ap₂, refl, subst, Bool, true, false, None, Some, Option, List, [], ◌∷◌, length, ⊎_elim, arith, option_and_then, if◌then◌else◌, get_or, ◌-◌, ◌*◌, subst₂, ◌++◌, reverse, take, drop, length-drop, drop-cons}
+use Rattle.std.proofs.Common.{◌≡◌, ℕ, zero, suc, ◌+◌, ◌<◌, ◌≤◌, ◌∙◌, sym, ap, ap₂, refl, subst, Bool, true, false, None}
+use Rattle.std.proofs.Common.{Some, Option, List, [], ◌∷◌, length, ⊎_elim, arith, option_and_then, if◌then◌else◌}
+use Rattle.std.proofs.Common.{get_or, ◌-◌, ◌*◌, subst₂, ◌++◌, reverse, take, drop, length-drop, drop-cons}
 use Rattle.std.specs.Option.{option_or}
 use Rattle.std.proofs.lemmas.Bool.{cases_lt}
 use Rattle.std.proofs.lemmas.List.{get_or_default, length-map, reverse-append, length-reverse}
@@ -7,15 +9,15 @@ use Rattle.code_tables.specs.declared.class.OpClass.{OpClass}
 use Rattle.code_tables.specs.declared.class.OpClass.TheVariants.{Sum, Difference, Product, Quotient, Negation, List as SumOfAll, Power, Least, Greatest, Floor, Ceiling, Absolute, Refused}
 use Rattle.exact_numbers.specs.declared.frac.Frac.{Frac}
 use Rattle.exact_numbers.specs.Values.{frac_value}
-use Rattle.fractions.specs.Rational.{ℚ, zero_ℚ, one_ℚ, ◌+ℚ◌, ◌*ℚ◌, neg_ℚ, inverse_of}
-use Rattle.fractions.proofs.Arithmetic.{*ℚ_zero, +ℚ_zero, neg_zero}
-use Rattle.nl_meaning.specs.declared.Fault.{Fault}
-use Rattle.nl_meaning.specs.declared.Reason.{Reason}
-use Rattle.program_meaning.specs.Lines.{Line, line_values, line_value, line_by, is_constant, line_with, line_sum, line_scaled, line_neg, running_line, constant_line, Point}
-use Rattle.nl_meaning.specs.Faults.{operator_fault, operator_line, fault_at, trees_lines, tree_fault, trees_fault}
-use Rattle.nl_meaning.specs.Trees.{Known, Tree, operator, Trees, none, more, applied, rule_of, tree_given, trees_given, Takes, tree_size, trees_size, first_trees}
-use Rattle.program_meaning.proofs.LineLemmas.{same_constant, same_coef, no_coef}
-use Rattle.nl_meaning.proofs.Linear.{both_there, constant_value, variable_value, operator_has_line}
+use Rattle.exact_numbers.specs.Rational.{ℚ, zero_ℚ, one_ℚ, ◌+ℚ◌, ◌*ℚ◌, neg_ℚ, inverse_of}
+use Rattle.exact_numbers.proofs.RationalLaws.{*ℚ_zero, +ℚ_zero, neg_zero}
+use Rattle.nl_model.specs.declared.fault.Fault.{Fault}
+use Rattle.nl_model.specs.declared.fault.Reason.{Reason}
+use Rattle.linear_program.specs.Lines.{Line, line_values, line_value, line_by, is_constant, line_with, line_sum, line_scaled, line_neg, running_line, constant_line, Point}
+use Rattle.nl_model.specs.Faults.{operator_fault, operator_line, fault_at, trees_lines, tree_fault, trees_fault}
+use Rattle.nl_model.specs.Trees.{Known, Tree, operator, Trees, none, more, applied, rule_of, tree_given, trees_given, Takes, tree_size, trees_size, first_trees}
+use Rattle.linear_program.proofs.LineLemmas.{same_constant, same_coef, no_coef}
+use Rattle.nl_model.proofs.Linear.{both_there, constant_value, variable_value, operator_has_line}
 use Rattle.linear_fold.specs.declared.entries.Entry.{Entry}
 use Rattle.linear_fold.specs.declared.entries.Entry.TheVariants.{Linear as Whole, Broken as Faulty}
 use Rattle.linear_program.specs.declared.form.Form.{Form}
@@ -23,7 +25,9 @@ use Rattle.linear_fold.specs.declared.parts.PartialForm.{PartialForm}
 use Rattle.linear_fold.specs.declared.parts.PartialForm.TheVariants.{Number, Variable, Linear, Broken}
 use Rattle.linear_program.specs.Forms.{form_line, is_open, IsWithin, IsZeroFrom}
 use Rattle.linear_fold.specs.InsideOperates.{IsOperand, IsSound, AreOperands, lines_of_parts, part_line}
-use Rattle.linear_fold.specs.InsideFolds.{HasLine, HasLineOf, IsLined, AreLinesOf, AreOperandsOf, ArePartsWithin, ComesToLine, IsEntryOf, IsEntryWithin, IsFolded, IsPartFolded, IsPartWithin, first_broken, AreNodesWithin, ArePartsFolded, IsNodeWithin, NodeFinds}
+use Rattle.linear_fold.specs.InsideFolds.{HasLine, HasLineOf, IsLined, AreLinesOf, AreOperandsOf, ArePartsWithin}
+use Rattle.linear_fold.specs.InsideFolds.{ComesToLine, IsEntryOf, IsEntryWithin, IsFolded, IsPartFolded, IsPartWithin}
+use Rattle.linear_fold.specs.InsideFolds.{first_broken, AreNodesWithin, ArePartsFolded, IsNodeWithin, NodeFinds}
 use Rattle.linear_fold.proofs.Operators.{multiple_zero_from}
 use Rattle.linear_program.proofs.Scaled.{same_line}
 use Rattle.std.proofs.Math.Nat.{mul-le-mul_left}
@@ -120,17 +124,22 @@ operator_zero n Refused ls h z = absurd h
 operator_zero n c ls h z = absurd (omega arith)
 
 -- ---- an operator
-pub operator_within : (n : ℕ) (c : OpClass) (ps : List PartialForm) (p : PartialForm) → Takes (rule_of c) (length ps) → AreOperands n ps → part_line p ≡ operator_line n c (lines_of_parts ps) → IsSound n p → IsOperand n p
+pub operator_within : (n : ℕ) (c : OpClass) (ps : List PartialForm) (p : PartialForm) → Takes (rule_of c) (length ps)
+    → AreOperands n ps → part_line p ≡ operator_line n c (lines_of_parts ps) → IsSound n p → IsOperand n p
 operator_within n c ps p count w e sound =
     record {
       sound = sound;
       zero_from = λ j g. ap (λ l. l.coef j) e ∙ operator_zero n c (lines_of_parts ps) (subst (Takes (rule_of c)) (sym (length-map ps part_line)) count) (lines_zero n ps w) j g;
     }
 
-module _ (known : Point → Known) (n i : ℕ) (c : OpClass) (ts : Trees) (ps : List PartialForm) (whole_one : first_broken ps ≡ None) (count : Takes (rule_of c) (length ps)) (within : AreOperands n ps) (operands : AreOperandsOf known n (i + 1) ts ps) where
+module _ (known : Point → Known) (n i : ℕ) (c : OpClass) (ts : Trees) (ps : List PartialForm)
+    (whole_one : first_broken ps ≡ None) (count : Takes (rule_of c) (length ps)) (within : AreOperands n ps)
+    (operands : AreOperandsOf known n (i + 1) ts ps) where
   fault_here : (r : Option Reason) → operator_fault n c (lines_of_parts ps) ≡ r → tree_fault known n i (operator c ts) ≡ fault_at i r
   fault_here r h =
-      ap₂ option_or (sym operands.fault ∙ whole_one) (ap (λ ls. fault_at i (operator_fault n c ls)) (sym (lines_are known n ts (lines_of_parts ps) (lines_zero n ps within) (operands.lines whole_one))) ∙ ap (fault_at i) h)
+      ap₂ option_or (sym operands.fault ∙ whole_one) (ap (λ ls. fault_at i (operator_fault n c ls))
+      (sym (lines_are known n ts (lines_of_parts ps) (lines_zero n ps within) (operands.lines whole_one)))
+      ∙ ap (fault_at i) h)
 
   operator_lined : (l : Line) → operator_fault n c (lines_of_parts ps) ≡ None → l ≡ operator_line n c (lines_of_parts ps) → IsLined known n i (operator c ts) l
   operator_lined l clean line =
@@ -150,7 +159,9 @@ module _ (known : Point → Known) (n i : ℕ) (c : OpClass) (ts : Trees) (ps : 
   operator_folded (Broken x) clean line sound = absurd sound
   operator_folded p clean line sound = operator_lined (part_line p) clean line
 
-pub faulty_operands : (known : Point → Known) (n i : ℕ) (c : OpClass) (ts : Trees) (ps : List PartialForm) → AreOperandsOf known n (i + 1) ts ps → (x : Fault) → first_broken ps ≡ Some x → tree_fault known n i (operator c ts) ≡ Some x
+pub faulty_operands : (known : Point → Known) (n i : ℕ) (c : OpClass) (ts : Trees) (ps : List PartialForm)
+    → AreOperandsOf known n (i + 1) ts ps → (x : Fault) → first_broken ps ≡ Some x
+    → tree_fault known n i (operator c ts) ≡ Some x
 faulty_operands known n i c ts ps operands x e = ap (λ o. option_or o (fault_at i (operator_fault n c (trees_lines known ts)))) (sym operands.fault ∙ e)
 
 pub operand_within : (n : ℕ) (p : PartialForm) → IsOperand n p → IsPartWithin n p
@@ -191,7 +202,10 @@ top_first stack new x e = ap reverse e ∙ reverse-append new (x ∷ [])
 
 -- ---- the operands of an operator
 module _ (known : Point → Known) (n : ℕ) where
-  clean_first : (i k : ℕ) (t : Tree) (l : Line) (ts : List Tree) (ps : List PartialForm) → IsLined known n i t l → AreOperandsOf known n (i + tree_size t) (first_trees k ts) ps → (first_broken ps ≡ trees_fault known n i (first_trees (suc k) (t ∷ ts))) × (first_broken ps ≡ None → AreLinesOf known n (first_trees (suc k) (t ∷ ts)) (l ∷ lines_of_parts ps))
+  clean_first : (i k : ℕ) (t : Tree) (l : Line) (ts : List Tree) (ps : List PartialForm) → IsLined known n i t l
+      → AreOperandsOf known n (i + tree_size t) (first_trees k ts) ps
+      → (first_broken ps ≡ trees_fault known n i (first_trees (suc k) (t ∷ ts)))
+      × (first_broken ps ≡ None → AreLinesOf known n (first_trees (suc k) (t ∷ ts)) (l ∷ lines_of_parts ps))
   clean_first i k t l ts ps f r = (
     r.fault ∙ ap (λ o. option_or o (trees_fault known n (i + tree_size t) (first_trees k ts))) (sym f.0),
     λ e. (f.1, r.lines e),
@@ -210,7 +224,8 @@ module _ (known : Point → Known) (n : ℕ) where
       let r = clean_first i k t (part_line p) ts (take k ps) f.0 (operands_are (i + tree_size t) k ts ps (omega arith) f.1) in
       record { fault = r.0; lines = r.1 }
 
-  pub rest_are : (i k : ℕ) (ts : List Tree) (ps : List PartialForm) → k ≤ length ps → ArePartsFolded known n i ts ps → ArePartsFolded known n (i + trees_size (first_trees k ts)) (drop k ts) (drop k ps)
+  pub rest_are : (i k : ℕ) (ts : List Tree) (ps : List PartialForm) → k ≤ length ps → ArePartsFolded known n i ts ps
+      → ArePartsFolded known n (i + trees_size (first_trees k ts)) (drop k ts) (drop k ps)
   rest_are i zero ts ps h f = subst (λ j. ArePartsFolded known n j ts ps) (omega arith) f
   rest_are i (suc k) ts [] h f = absurd (omega arith)
   rest_are i (suc k) [] (p ∷ ps) h f = absurd f
@@ -218,14 +233,20 @@ module _ (known : Point → Known) (n : ℕ) where
       subst (λ j. ArePartsFolded known n j (drop k ts) (drop k ps)) (omega arith) (rest_are (i + tree_size t) k ts ps (omega arith) f.1)
 
 -- an operator's part in place of its operands'
-pub operator_step : (known : Point → Known) (n place : ℕ) (o : ℕ) (k : ℕ) (trees : List Tree) (ps rest operands : List PartialForm) (p : PartialForm) → k ≤ length ps → operands ≡ take k ps → rest ≡ drop k ps → ((ts : Trees) → AreOperandsOf known n (place + 1) ts operands → IsPartFolded known n place (operator (class_of o) ts) p) → ArePartsFolded known n (place + 1) trees ps → ArePartsFolded known n place (with_node (Op o k) trees) (p ∷ rest)
+pub operator_step : (known : Point → Known) (n place : ℕ) (o : ℕ) (k : ℕ) (trees : List Tree)
+    (ps rest operands : List PartialForm) (p : PartialForm) → k ≤ length ps → operands ≡ take k ps → rest ≡ drop k ps
+    → ((ts : Trees) → AreOperandsOf known n (place + 1) ts operands
+    → IsPartFolded known n place (operator (class_of o) ts) p) → ArePartsFolded known n (place + 1) trees ps
+    → ArePartsFolded known n place (with_node (Op o k) trees) (p ∷ rest)
 operator_step known n place o k trees ps rest operands p room are is_rest h folded =
     let ts = first_trees k trees in (
       h ts (subst (AreOperandsOf known n (place + 1) ts) (sym are) (operands_are known n (place + 1) k trees ps room folded)),
       subst₂ (λ j qs. ArePartsFolded known n j (drop k trees) qs) (omega arith) (sym is_rest) (rest_are known n (place + 1) k trees ps room folded),
     )
 
-pub operator_size : (o : ℕ) (k : ℕ) (trees : List Tree) (stack new : List PartialForm) → k ≤ length stack → length trees ≡ length stack → reverse new ≡ drop k (reverse stack) → length (with_node (Op o k) trees) ≡ 1 + length new
+pub operator_size : (o : ℕ) (k : ℕ) (trees : List Tree) (stack new : List PartialForm) → k ≤ length stack
+    → length trees ≡ length stack → reverse new ≡ drop k (reverse stack)
+    → length (with_node (Op o k) trees) ≡ 1 + length new
 operator_size o k trees stack new room same rest =
     let fewer : length (reverse new) ≡ length (drop k (reverse stack)) = ap length rest in
     omega (arith, fewer, length-reverse new, length-reverse stack, length-drop k (reverse stack), length-drop k trees)
@@ -257,7 +278,10 @@ module _ (n : ℕ) (slots : List (Option Form)) where
   pub finds_at : (nodes rest : List Node) (p : ℕ) (x : Node) → AreNodesFormed nodes → AreNodesWithin n slots nodes → drop p nodes ≡ x ∷ rest → NodeFinds n slots (length (trees_of rest)) x
   finds_at nodes rest p x f h e = finds_head x rest (subst AreNodesFormed e (formed_drop p nodes f)) (subst (AreNodesWithin n slots) e (within_drop p nodes h)).0
 
-pub top_folded : (known : Point → Known) (n place : ℕ) (nodes : List Node) (tree : Tree) (stack new : List PartialForm) (p : PartialForm) → place ≡ 0 → trees_of nodes ≡ tree ∷ [] → ArePartsFolded known n place (trees_of (drop place nodes)) (reverse stack) → stack ≡ new ++ p ∷ [] → IsPartFolded known n 0 tree p
+pub top_folded : (known : Point → Known) (n place : ℕ) (nodes : List Node) (tree : Tree) (stack new : List PartialForm)
+    (p : PartialForm) → place ≡ 0 → trees_of nodes ≡ tree ∷ []
+    → ArePartsFolded known n place (trees_of (drop place nodes)) (reverse stack) → stack ≡ new ++ p ∷ []
+    → IsPartFolded known n 0 tree p
 top_folded known n place nodes tree stack new p is one folded top =
     let a : ArePartsFolded known n 0 (trees_of nodes) (reverse stack) = subst (λ q. ArePartsFolded known n q (trees_of (drop q nodes)) (reverse stack)) is folded in
     let b : ArePartsFolded known n 0 (tree ∷ []) (p ∷ reverse new) = subst₂ (ArePartsFolded known n 0) one (top_first stack new p top) a in
@@ -283,7 +307,9 @@ entry_steps w from to k new old a b =
     omega arith
 
 -- one node more, of those before place p
-pub tree_steps : (w total p start from to old new : ℕ) → 0 < p → p ≤ total → from + 2 * w * old ≤ start + 2 * w * (total - p) → to + 2 * w * new ≤ from + 2 * w * old → to + 2 * w * (new + 1) ≤ start + 2 * w * (total - (p - 1))
+pub tree_steps : (w total p start from to old new : ℕ) → 0 < p → p ≤ total
+    → from + 2 * w * old ≤ start + 2 * w * (total - p) → to + 2 * w * new ≤ from + 2 * w * old
+    → to + 2 * w * (new + 1) ≤ start + 2 * w * (total - (p - 1))
 tree_steps w total p start from to old new some within a b =
     let one : total - (p - 1) ≡ total - p + 1 = omega arith in
     subst (λ k. to + 2 * w * (new + 1) ≤ start + 2 * w * k) (sym one)

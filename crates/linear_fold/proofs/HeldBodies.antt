@@ -5,14 +5,16 @@ use Rattle.nl_model.specs.File.{File}
 use Rattle.nl_model.specs.Rules.{IsFile}
 use Rattle.linear_program.specs.declared.form.Form.{Form}
 use Rattle.linear_program.specs.Forms.{form_terms}
-use Rattle.file_meaning.specs.FoldFaults.{most_coefficients}
+use Rattle.nl_model.specs.FoldFaults.{most_coefficients}
 use Rattle.linear_fold.specs.declared.bodies.Bodies.{Bodies}
 use Rattle.linear_fold.specs.InsideHeldBodies.{AreStillDecimals, HasBodies, IsBodyOf, IsStillDecimal, bodies_in, body_at, completed, completed_form}
 use Rattle.linear_fold.specs.InsideOwnerFolds.{AreBodiesOf, AreFormsOf, IsFormOf, coefficients_of}
 use Rattle.linear_fold.proofs.BodyLemmas.{one_more_body, one_more_count}
 use Rattle.linear_fold.proofs.CompletionLemmas.{completed_length, completed_push, still_push}
 
-module _ (f : File) (file : IsFile f) (i : ℕ) (within : i < f.counts.n_con) (hs hs2 : List Bool) (bs bs2 : List Form) (held : Bool) (form : Form) (n : length bs ≡ i) (m : length hs ≡ i) (e : hs2 ≡ hs ++ held ∷ []) (g : bs2 ≡ bs ++ form ∷ []) where
+module _ (f : File) (file : IsFile f) (i : ℕ) (within : i < f.counts.n_con) (hs hs2 : List Bool) (bs bs2 : List Form)
+    (held : Bool) (form : Form) (n : length bs ≡ i) (m : length hs ≡ i) (e : hs2 ≡ hs ++ held ∷ [])
+    (g : bs2 ≡ bs ++ form ∷ []) where
   rows : i < length f.terms
   rows = subst (λ k. i < k) (sym file.terms.rows) within
 
@@ -43,7 +45,9 @@ module _ (f : File) (file : IsFile f) (i : ℕ) (within : i < f.counts.n_con) (h
   pub count_more : coefficients_of (completed hs2 f.terms bs2) ≡ coefficients_of (completed hs f.terms bs) + length (form_terms (body_at f i held form))
   count_more = ap coefficients_of all_more ∙ one_more_count (completed hs f.terms bs) (body_at f i held form)
 
-pub forms_are : (f : File) → IsFile f → (k : ℕ) (hold : Bool) (v : Bodies) (form : Form) → HasBodies f hold v → IsFormOf f (Obj k) form → coefficients_of (bodies_in f v) + length (form_terms form) ≤ most_coefficients → AreFormsOf f k (bodies_in f v) form
+pub forms_are : (f : File) → IsFile f → (k : ℕ) (hold : Bool) (v : Bodies) (form : Form) → HasBodies f hold v
+    → IsFormOf f (Obj k) form → coefficients_of (bodies_in f v) + length (form_terms form) ≤ most_coefficients
+    → AreFormsOf f k (bodies_in f v) form
 forms_are f file k hold v form b o few =
     record {
       bodies_are = b.bodies_are;

@@ -4,12 +4,12 @@ use Rattle.std.proofs.lemmas.List.{drop_all, take_all, length-map}
 use Rattle.exact_numbers.specs.declared.dec.Dec.{Dec}
 use Rattle.exact_numbers.specs.declared.frac.Frac.{Frac}
 use Rattle.exact_numbers.specs.Values.{dec_value, frac_value}
-use Rattle.fractions.specs.Fits.{fits}
-use Rattle.fractions.specs.Rational.{zero_ℚ}
-use Rattle.program_meaning.specs.Lines.{constant_line}
-use Rattle.nl_meaning.specs.declared.Fault.{Fault}
-use Rattle.nl_meaning.specs.Faults.{fault_at, too_wide_unless}
-use Rattle.nl_meaning.specs.Trees.{Tree, number, tree_size}
+use Rattle.exact_numbers.specs.Fits.{fits}
+use Rattle.exact_numbers.specs.Rational.{zero_ℚ}
+use Rattle.linear_program.specs.Lines.{constant_line}
+use Rattle.nl_model.specs.declared.fault.Fault.{Fault}
+use Rattle.nl_model.specs.Faults.{fault_at, too_wide_unless}
+use Rattle.nl_model.specs.Trees.{Tree, number, tree_size}
 use Rattle.nl_model.specs.declared.at.At.TheVariants.{Head}
 use Rattle.nl_model.specs.declared.at.Owner.TheVariants.{Con}
 use Rattle.nl_model.specs.declared.node.Node.{Node}
@@ -18,8 +18,8 @@ use Rattle.nl_model.specs.File.{File}
 use Rattle.nl_model.specs.FilePlaces.{terms_at, tree_at}
 use Rattle.nl_model.specs.Nodes.{AreNodesOf, first_of_trees, trees_of}
 use Rattle.nl_model.specs.Rules.{AreTermsBelow, IsFile}
-use Rattle.file_meaning.specs.Expressions.{linear_terms, tree_or_zero}
-use Rattle.file_meaning.specs.FoldFaults.{Owned, most_coefficients, owners_fault}
+use Rattle.nl_model.specs.Expressions.{linear_terms, tree_or_zero}
+use Rattle.nl_model.specs.FoldFaults.{Owned, most_coefficients, owners_fault}
 use Rattle.linear_program.specs.declared.form.Form.{Form}
 use Rattle.linear_program.specs.declared.form.Kept.TheVariants.{Closed}
 use Rattle.linear_program.specs.Coefs.{AreAscending}
@@ -65,7 +65,8 @@ is_number d k fit value known n form e = (
   same_values n _ (form_line form) (constant_line (dec_value d)) (e ∙ ap constant_line value) (constant_lined n (dec_value d)),
 )
 
-pub number_node : (ns : List Node) (x : Node) (d : Dec) (k : Frac) → length ns ≡ 1 → x ≡ get_or ns 0 x → x ≡ Num d → fits (dec_value d) ≡ true → frac_value k ≡ dec_value d → (t : Tree) → AreNodesOf t ns → IsNumber t k
+pub number_node : (ns : List Node) (x : Node) (d : Dec) (k : Frac) → length ns ≡ 1 → x ≡ get_or ns 0 x → x ≡ Num d
+    → fits (dec_value d) ≡ true → frac_value k ≡ dec_value d → (t : Tree) → AreNodesOf t ns → IsNumber t k
 number_node ns x d k one at is fit value t nodes =
     let alone : ns ≡ Num d ∷ [] = one_node ns x one at ∙ ap (λ z. z ∷ []) is in
     let same : number d.m d.e ≡ t = sym (ap (λ xs. first_of_trees (trees_of xs)) alone) ∙ ap first_of_trees nodes.trees in
@@ -100,7 +101,9 @@ module _ (f : File) (file : IsFile f) (i : ℕ) (has : i < f.counts.n_con) where
 
   module _ (x : Fault) (is : IsHeldAt f i (Broken x)) where
     pub broken_small : tree_size (tree_or_zero (tree_at f (Con i))) ≤ 2 ^ 22 → x.place < 2 ^ 32
-    broken_small few = place_bound (tree_at f (Con i)) terms x.place (expression_among (known_by f.definitions) width (tree_at f (Con i)) terms x (entry (Broken x) is)) few (owner_terms f file (Con i) has).1
+    broken_small few = place_bound (tree_at f (Con i)) terms x.place
+        (expression_among (known_by f.definitions) width (tree_at f (Con i)) terms x (entry (Broken x) is)) few
+        (owner_terms f file (Con i) has).1
 
     pub broken_stop : (before : ℕ) (rest : List Owned) → option_map (named_fault f) (owners_fault width before (owned_at f (Con i) ∷ rest)) ≡ Some (fault_for x.reason (place_at f (Con i) x.place))
     broken_stop before rest = broken_folded f (Con i) before x (entry (Broken x) is) rest
@@ -124,13 +127,20 @@ module _ (f : File) (file : IsFile f) (i : ℕ) (has : i < f.counts.n_con) where
     pub number_form : IsFormOf f (Con i) form
     number_form = record { values = (entry (Number k) is).1; within = within; over = over_of width form within up }
 
-    pub number_clean : (before after : ℕ) → after ≡ before + length terms → after ≤ most_coefficients → (rest : List Owned) → owners_fault width before (owned_at f (Con i) ∷ rest) ≡ owners_fault width after rest
+    pub number_clean : (before after : ℕ) → after ≡ before + length terms → after ≤ most_coefficients
+        → (rest : List Owned) → owners_fault width before (owned_at f (Con i) ∷ rest) ≡ owners_fault width after rest
     number_clean before after e few =
-        linear_folded f (Con i) before (length (form_terms form)) after (entry (Number k) is).0 (owner_count f (Con i) form within up (entry (Number k) is).1) (e ∙ ap (λ m. before + m) (sym number_length)) few
+        linear_folded f (Con i) before (length (form_terms form)) after (entry (Number k) is).0
+        (owner_count f (Con i) form within up (entry (Number k) is).1) (e ∙ ap (λ m. before + m) (sym number_length))
+        few
 
-    pub number_large : (before : ℕ) → most_coefficients < before + length terms → (rest : List Owned) → option_map (named_fault f) (owners_fault width before (owned_at f (Con i) ∷ rest)) ≡ Some (FoldTooLarge (Head (Con i)))
+    pub number_large : (before : ℕ) → most_coefficients < before + length terms → (rest : List Owned)
+        → option_map (named_fault f) (owners_fault width before (owned_at f (Con i) ∷ rest))
+        ≡ Some (FoldTooLarge (Head (Con i)))
     number_large before many =
-        large_folded f (Con i) before (length (form_terms form)) (entry (Number k) is).0 (owner_count f (Con i) form within up (entry (Number k) is).1) (subst (λ m. most_coefficients < before + m) (sym number_length) many)
+        large_folded f (Con i) before (length (form_terms form)) (entry (Number k) is).0
+        (owner_count f (Con i) form within up (entry (Number k) is).1)
+        (subst (λ m. most_coefficients < before + m) (sym number_length) many)
 
     pub number_head : (before : ℕ) → before ≤ most_coefficients → most_coefficients < before + length terms → HasFaultPlace f (FoldTooLarge (Head (Con i)))
     number_head before few many = head_placed f (Con i) form before within up (entry (Number k) is).1 few (subst (λ m. most_coefficients < before + m) (sym number_length) many)

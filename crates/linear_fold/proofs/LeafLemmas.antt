@@ -1,5 +1,7 @@
 -- Leaves, and what sums of them come to.
-use Rattle.std.proofs.Common.{◌≡◌, ◌≢◌, ℕ, suc, ◌+◌, ◌*◌, ◌<◌, ◌≤◌, ◌∙◌, sym, ap, ap₂, refl, subst, subst₂, ◌==◌, arith, ⊎_elim, Bool, true, false, ◌&&◌, Some, None, Option, List, [], ◌∷◌, ◌++◌, drop, length, get_or, unwrap_or, option_and_then, IfSome, if◌then◌else◌}
+use Rattle.std.proofs.Common.{◌≡◌, ◌≢◌, ℕ, suc, ◌+◌, ◌*◌, ◌<◌, ◌≤◌, ◌∙◌, sym, ap, ap₂, refl, subst, subst₂, ◌==◌, arith}
+use Rattle.std.proofs.Common.{⊎_elim, Bool, true, false, ◌&&◌, Some, None, Option, List, [], ◌∷◌, ◌++◌, drop, length}
+use Rattle.std.proofs.Common.{get_or, unwrap_or, option_and_then, IfSome, if◌then◌else◌}
 use Rattle.std.specs.Option.{option_or}
 use Rattle.std.proofs.lemmas.Bool.{and_from, and_parts, cases_eq}
 use Rattle.std.proofs.lemmas.List.{drop_more, map-append}
@@ -10,15 +12,15 @@ use Rattle.exact_numbers.specs.declared.frac.Frac.{Frac}
 use Rattle.exact_numbers.specs.Values.{dec_value, frac_value}
 use Rattle.exact_numbers.proofs.Bridge.{frac_fits_lem}
 use Rattle.exact_numbers.proofs.Zeros.{fits_zero, sum_fits_zero, zero_sum_fits}
-use Rattle.fractions.specs.Fits.{fits, sum_fits}
-use Rattle.fractions.specs.Functions.{is_zero}
-use Rattle.fractions.specs.Rational.{ℚ, whole, zero_ℚ, one_ℚ, ◌+ℚ◌, ◌*ℚ◌, inverse_of}
-use Rattle.fractions.proofs.Arithmetic.{one-*ℚ, zero-+ℚ, +ℚ_zero, *ℚ_comm, *ℚ_one}
-use Rattle.fractions.proofs.Values.{own_value, same_value}
-use Rattle.program_meaning.specs.Lines.{Line, Point, constant_line, is_constant, line_scaled, line_sum, line_value, one_if, products_fit, running_line, running_sums_fit, sums_fit}
-use Rattle.nl_meaning.specs.Faults.{fault_at, operator_fault, operator_line, too_wide_unless, trees_fault, trees_lines, tree_line}
-use Rattle.nl_meaning.specs.Trees.{Known, Tree, Trees, number, variable, operator, none, more, first_trees, count_of, tree_size, tree_given, Takes, applied, rule_of}
-use Rattle.nl_meaning.proofs.Linear.{operator_has_line}
+use Rattle.exact_numbers.specs.Fits.{fits, sum_fits}
+use Rattle.exact_numbers.specs.Functions.{is_zero}
+use Rattle.exact_numbers.specs.Rational.{ℚ, whole, zero_ℚ, one_ℚ, ◌+ℚ◌, ◌*ℚ◌, inverse_of}
+use Rattle.exact_numbers.proofs.RationalLaws.{one-*ℚ, zero-+ℚ, +ℚ_zero, *ℚ_comm, *ℚ_one}
+use Rattle.exact_numbers.proofs.Values.{own_value, same_value}
+use Rattle.linear_program.specs.Lines.{Line, Point, constant_line, is_constant, line_scaled, line_sum, line_value, one_if, products_fit, running_line, running_sums_fit, sums_fit}
+use Rattle.nl_model.specs.Faults.{fault_at, operator_fault, operator_line, too_wide_unless, trees_fault, trees_lines, tree_line}
+use Rattle.nl_model.specs.Trees.{Known, Tree, Trees, number, variable, operator, none, more, first_trees, count_of, tree_size, tree_given, Takes, applied, rule_of}
+use Rattle.nl_model.proofs.Linear.{operator_has_line}
 use Rattle.nl_model.specs.declared.node.Node.{Node}
 use Rattle.nl_model.specs.declared.node.Node.TheVariants.{Num, Var, Defined, Op}
 use Rattle.nl_model.specs.Nodes.{IsTreeFormed, first_of_trees, trees_of, with_node}
@@ -39,10 +41,15 @@ use Rattle.linear_fold.specs.declared.operate.Outcome.TheVariants.{Linear as Mad
 use Rattle.linear_fold.specs.declared.parts.PartialForm.{PartialForm}
 use Rattle.linear_fold.specs.declared.parts.PartialForm.TheVariants.{Number, Variable}
 use Rattle.linear_fold.specs.InsideFolds.{AreOperandsOf, IsFolded, IsLined}
-use Rattle.linear_fold.specs.InsideLeafSums.{AddsLeaf, Appends, AreLeaves, AreTerms, IsFormOf, IsInverse, IsLeafAt, IsListOf, IsMultipleAt, IsMultipleOf, IsNumberAt, IsVariableOf, IsVariableOver, SumsUpTo, factors_in, factors_leaf, leaf_line, leaves_line, number_count}
+use Rattle.linear_fold.specs.InsideLeafSums.{AddsLeaf, Appends, AreLeaves, AreTerms, IsFormOf, IsInverse, IsLeafAt}
+use Rattle.linear_fold.specs.InsideLeafSums.{IsListOf, IsMultipleAt, IsMultipleOf, IsNumberAt, IsVariableOf}
+use Rattle.linear_fold.specs.InsideLeafSums.{IsVariableOver, SumsUpTo, factors_in, factors_leaf, leaf_line, leaves_line}
+use Rattle.linear_fold.specs.InsideLeafSums.{number_count}
 use Rattle.linear_fold.specs.InsideOperates.{AreOperands, Operates, lines_of_parts, multiple_line, zero_line}
 use Rattle.linear_fold.proofs.Folding.{constant_lined, is_line_by, multiple_within, number_within, operands_are, operator_folded, same_values, values_are, variable_lined}
-use Rattle.linear_fold.proofs.Operators.{fault_first, fault_second, few_steps, multiple_apart, multiple_at, multiple_constant, multiple_fits, multiple_scaled, multiple_zero_from, number_constant, quotient_comes, zero_line_sum}
+use Rattle.linear_fold.proofs.Operators.{fault_first, fault_second, few_steps, multiple_apart, multiple_at}
+use Rattle.linear_fold.proofs.Operators.{multiple_constant, multiple_fits, multiple_scaled, multiple_zero_from}
+use Rattle.linear_fold.proofs.Operators.{number_constant, quotient_comes, zero_line_sum}
 
 -- ---- 1 as a fraction
 fits_one : fits one_ℚ ≡ true
@@ -115,7 +122,9 @@ module _ (known : Point → Known) (n i j : ℕ) (d : Dec) (fit : fits (dec_valu
 
   product_first : IsLined known n i (operator Product first_trees_here) (multiple_line j (dec_value d))
   product_first =
-      let operands : AreOperandsOf known n (i + 1) first_trees_here number_first = operands_are known n (i + 1) 2 (number d.m d.e ∷ variable j ∷ []) number_first (omega arith) (number_here (i + 1), (variable_here (i + 1 + 1), tt)) in
+      let operands : AreOperandsOf known n (i + 1) first_trees_here number_first =
+      operands_are known n (i + 1) 2 (number d.m d.e ∷ variable j ∷ []) number_first (omega arith)
+      (number_here (i + 1), (variable_here (i + 1 + 1), tt)) in
       let within : AreOperands n number_first = (number_within n (frac_of d), (multiple_within n j one_frac low, tt)) in
       let clean : operator_fault n Product (lines_of_parts number_first) ≡ None = fault_first _ _ _ constant_here ∙ ap too_wide_unless fine in
       let line : multiple_line j (frac_value (frac_of d)) ≡ operator_line n Product (lines_of_parts number_first) = product_line ∙ sym (chosen_first _ _ _ constant_here) in
@@ -124,7 +133,9 @@ module _ (known : Point → Known) (n i j : ℕ) (d : Dec) (fit : fits (dec_valu
 
   product_last : IsLined known n i (operator Product last_trees_here) (multiple_line j (dec_value d))
   product_last =
-      let operands : AreOperandsOf known n (i + 1) last_trees_here number_last = operands_are known n (i + 1) 2 (variable j ∷ number d.m d.e ∷ []) number_last (omega arith) (variable_here (i + 1), (number_here (i + 1 + 1), tt)) in
+      let operands : AreOperandsOf known n (i + 1) last_trees_here number_last =
+      operands_are known n (i + 1) 2 (variable j ∷ number d.m d.e ∷ []) number_last (omega arith)
+      (variable_here (i + 1), (number_here (i + 1 + 1), tt)) in
       let within : AreOperands n number_last = (multiple_within n j one_frac low, (number_within n (frac_of d), tt)) in
       let clean : operator_fault n Product (lines_of_parts number_last) ≡ None = fault_second _ _ _ some_here ∙ fault_first _ _ _ constant_here ∙ ap too_wide_unless fine in
       let line : multiple_line j (frac_value (frac_of d)) ≡ operator_line n Product (lines_of_parts number_last) = product_line ∙ sym (chosen_second _ _ _ some_here) in
@@ -151,7 +162,8 @@ number_leaf ns p x d h e is =
       lined = λ known n i fit low. number_lined known n i d fit;
     }
 
-pub variable_leaf : (ns : List Node) (p : ℕ) (x : Node) (j : ℕ) (d : Dec) → dec_value d ≡ one_ℚ → p < length ns → x ≡ get_or ns p x → x ≡ Var j → IsLeafAt ns p (record { variable = Some j; factor = d; size = 1 })
+pub variable_leaf : (ns : List Node) (p : ℕ) (x : Node) (j : ℕ) (d : Dec) → dec_value d ≡ one_ℚ → p < length ns
+    → x ≡ get_or ns p x → x ≡ Var j → IsLeafAt ns p (record { variable = Some j; factor = d; size = 1 })
 variable_leaf ns p x j d one h e is =
     record {
       tree = variable j;
@@ -174,7 +186,9 @@ module _ (ns : List Node) (p : ℕ) (within : p + 3 ≤ length ns) where
         trees = ap trees_of here;
         size = refl;
         within = within;
-        lined = λ known n i fit low. subst (λ c. IsLined known n i (operator c (more (number d.m d.e) (more (variable j) none))) (multiple_line j (dec_value d))) (sym product_class) (product_first known n i j d fit low);
+        lined = λ known n i fit low. subst (λ c. IsLined known n i
+            (operator c (more (number d.m d.e) (more (variable j) none))) (multiple_line j (dec_value d)))
+            (sym product_class) (product_first known n i j d fit low);
       })
   factors_at (Var j) (Num d) l here e =
       subst (IsLeafAt ns p) (ap (λ o. unwrap_or o (factors_leaf j d)) e)
@@ -183,7 +197,9 @@ module _ (ns : List Node) (p : ℕ) (within : p + 3 ≤ length ns) where
         trees = ap trees_of here;
         size = refl;
         within = within;
-        lined = λ known n i fit low. subst (λ c. IsLined known n i (operator c (more (variable j) (more (number d.m d.e) none))) (multiple_line j (dec_value d))) (sym product_class) (product_last known n i j d fit low);
+        lined = λ known n i fit low. subst (λ c. IsLined known n i
+            (operator c (more (variable j) (more (number d.m d.e) none))) (multiple_line j (dec_value d)))
+            (sym product_class) (product_last known n i j d fit low);
       })
   factors_at (Num d) (Num e) l here h = cc
   factors_at (Num d) (Defined i) l here h = cc
@@ -194,7 +210,8 @@ module _ (ns : List Node) (p : ℕ) (within : p + 3 ≤ length ns) where
   factors_at (Defined i) b l here h = cc
   factors_at (Op o k) b l here h = cc
 
-  pub product_leaf : (x a b : Node) (o k : ℕ) (l : Leaf) → x ≡ get_or ns p x → x ≡ Op o k → o ≡ 2 → k ≡ 2 → a ≡ get_or ns (p + 1) a → b ≡ get_or ns (p + 2) b → factors_in a b ≡ Some l → IsLeafAt ns p l
+  pub product_leaf : (x a b : Node) (o k : ℕ) (l : Leaf) → x ≡ get_or ns p x → x ≡ Op o k → o ≡ 2 → k ≡ 2
+      → a ≡ get_or ns (p + 1) a → b ≡ get_or ns (p + 2) b → factors_in a b ≡ Some l → IsLeafAt ns p l
   product_leaf x a b o k l at is two pair first second e =
       let head : x ≡ Op 2 2 = is ∙ ap₂ (λ m q. Op m q) two pair in
       let m : p + 1 + 1 ≡ p + 2 = omega arith in
@@ -218,7 +235,9 @@ multiple_here ns p l m at is =
     }
 
 -- a fraction times a variable divided by a number
-module _ (known : Point → Known) (n i : ℕ) (t : Tree) (m : Multiple) (d : Dec) (g f : Frac) (is : IsInverse d g) (value : frac_value f ≡ frac_value m.factor *ℚ frac_value g) (low : m.variable < n) (lined : (p : ℕ) → IsLined known n p t (multiple_line m.variable (frac_value m.factor))) where
+module _ (known : Point → Known) (n i : ℕ) (t : Tree) (m : Multiple) (d : Dec) (g f : Frac) (is : IsInverse d g)
+    (value : frac_value f ≡ frac_value m.factor *ℚ frac_value g) (low : m.variable < n)
+    (lined : (p : ℕ) → IsLined known n p t (multiple_line m.variable (frac_value m.factor))) where
   quotient_value : frac_value f ≡ inverse_of (frac_value (frac_of d)) *ℚ frac_value m.factor
   quotient_value = value ∙ *ℚ_comm (frac_value m.factor) (frac_value g) ∙ ap (λ x. x *ℚ frac_value m.factor) (is.value ∙ ap inverse_of (sym (frac_of-value d is.divisor)))
 
@@ -229,7 +248,9 @@ module _ (known : Point → Known) (n i : ℕ) (t : Tree) (m : Multiple) (d : De
       let y = frac_value (frac_of d) in
       let ps : List PartialForm = Variable j m.factor ∷ Number (frac_of d) ∷ [] in
       let ts : Trees = more t (more (number d.m d.e) none) in
-      let second : IsLined known n (i + 1 + tree_size t) (number d.m d.e) (constant_line y) = subst (λ z. IsLined known n (i + 1 + tree_size t) (number d.m d.e) (constant_line z)) (sym (frac_of-value d is.divisor)) (number_lined known n (i + 1 + tree_size t) d is.divisor) in
+      let second : IsLined known n (i + 1 + tree_size t) (number d.m d.e) (constant_line y) =
+      subst (λ z. IsLined known n (i + 1 + tree_size t) (number d.m d.e) (constant_line z))
+      (sym (frac_of-value d is.divisor)) (number_lined known n (i + 1 + tree_size t) d is.divisor) in
       let operands : AreOperandsOf known n (i + 1) ts ps = operands_are known n (i + 1) 2 (t ∷ number d.m d.e ∷ []) ps (omega arith) (lined (i + 1), (second, tt)) in
       let within : AreOperands n ps = (multiple_within n j m.factor low, (number_within n (frac_of d), tt)) in
       let some : is_zero y ≡ false = nonzero_test y false (λ z. absurd (is.some (sym (frac_of-value d is.divisor) ∙ z))) refl in
@@ -244,7 +265,10 @@ unfolding class_of
 quotient_class = refl
 
 -- the quotient of a multiple at the next place
-pub quotient_multiple : (ns : List Node) (p : ℕ) (m : Multiple) (d : Dec) (g f : Frac) → drop p ns ≡ Op 3 2 ∷ drop (p + 1) ns → IsMultipleAt ns (p + 1) m → IsNumberAt ns (p + 1 + m.size) d → IsInverse d g → frac_value f ≡ frac_value m.factor *ℚ frac_value g → IsMultipleAt ns p (record { variable = m.variable; factor = f; size = m.size + 2 })
+pub quotient_multiple : (ns : List Node) (p : ℕ) (m : Multiple) (d : Dec) (g f : Frac)
+    → drop p ns ≡ Op 3 2 ∷ drop (p + 1) ns → IsMultipleAt ns (p + 1) m → IsNumberAt ns (p + 1 + m.size) d → IsInverse d g
+    → frac_value f ≡ frac_value m.factor *ℚ frac_value g → IsMultipleAt ns p
+    (record { variable = m.variable; factor = f; size = m.size + 2 })
 quotient_multiple ns p m d g f here at last is value =
     let t = at.tree in
     let end : p + 1 + m.size + 1 ≡ p + (m.size + 2) = omega arith in
@@ -260,7 +284,9 @@ quotient_multiple ns p m d g f here at last is value =
     }
 
 -- the quotient of a variable by a number, which are the next two nodes
-pub variable_quotient_is : (ns : List Node) (p : ℕ) (a b : Node) (m : Multiple) → p + 3 ≤ length ns → drop p ns ≡ Op 3 2 ∷ drop (p + 1) ns → a ≡ get_or ns (p + 1) a → b ≡ get_or ns (p + 2) b → IsVariableOver a b m → IsMultipleAt ns p m
+pub variable_quotient_is : (ns : List Node) (p : ℕ) (a b : Node) (m : Multiple) → p + 3 ≤ length ns
+    → drop p ns ≡ Op 3 2 ∷ drop (p + 1) ns → a ≡ get_or ns (p + 1) a → b ≡ get_or ns (p + 2) b → IsVariableOver a b m
+    → IsMultipleAt ns p m
 variable_quotient_is ns p (Var j) (Num d) m within here first second is =
     let dividend : Multiple = record { variable = j; factor = one_frac; size = 1 } in
     let end : p + 2 ≡ p + 1 + 1 = omega arith in
@@ -282,7 +308,9 @@ pub list_at : (ns : List Node) (x : Node) (o k : ℕ) → 0 < length ns → x �
 list_at ns x o k some at is list = record { some = omega arith; first = node_here ns 0 x some at ∙ ap (λ y. y ∷ drop 1 ns) (is ∙ ap (λ m. Op m k) list) }
 
 -- ---- one leaf more
-decimals_more : (n v : ℕ) (ds : List DecimalTerm) (d : DecimalTerm) → n ≤ v → AreDecimals n ds → AreBelow v (fraction_terms ds) → v ≤ d.0 → dec_value d.1 ≢ zero_ℚ → fits (dec_value d.1) ≡ true → AreDecimals n (ds ++ d ∷ [])
+decimals_more : (n v : ℕ) (ds : List DecimalTerm) (d : DecimalTerm) → n ≤ v → AreDecimals n ds
+    → AreBelow v (fraction_terms ds) → v ≤ d.0 → dec_value d.1 ≢ zero_ℚ → fits (dec_value d.1) ≡ true
+    → AreDecimals n (ds ++ d ∷ [])
 decimals_more n v [] d low a b up live fit = (omega arith, live, fit, tt)
 decimals_more n v (x ∷ ds) d low a b up live fit = (a.0, a.1, a.2, decimals_more (suc x.0) v ds d b.0 a.3 b.1 up live fit)
 
@@ -340,7 +368,9 @@ module _ (n : ℕ) (old : LeafSum) (held : AreLeaves n old) (j : ℕ) (d : Dec) 
         more = (let e = least_is in let f : number_count new.number ≡ number_count old.number = ap number_count number_is in omega arith);
       }
 
-pub number_added : (n : ℕ) (old new : LeafSum) (d : Dec) (f : Frac) → AreLeaves n old → old.number ≡ None → fits (dec_value d) ≡ true → frac_value f ≡ dec_value d → new.terms ≡ old.terms → new.number ≡ Some f → new.least ≡ old.least → AddsLeaf n old None d new
+pub number_added : (n : ℕ) (old new : LeafSum) (d : Dec) (f : Frac) → AreLeaves n old → old.number ≡ None
+    → fits (dec_value d) ≡ true → frac_value f ≡ dec_value d → new.terms ≡ old.terms → new.number ≡ Some f
+    → new.least ≡ old.least → AddsLeaf n old None d new
 number_added n old new d f held free fit is terms_are number_is least_is =
     record {
       leaves =
@@ -370,18 +400,22 @@ pub nothing_more : (known : Point → Known) (n i : ℕ) (l : Line) → SumsUpTo
 nothing_more known n i l = record { clean = refl; lines = tt; fit = refl; sum = refl }
 
 -- a leaf before trees
-one_more : (known : Point → Known) (n i : ℕ) (t : Tree) (ts : Trees) (a b l leaf : Line) → IsLined known n i t leaf → IsZeroFrom n leaf → sums_fit n a leaf ≡ true → b ≡ line_sum a leaf → SumsUpTo known n (i + tree_size t) ts b l → SumsUpTo known n i (more t ts) a l
+one_more : (known : Point → Known) (n i : ℕ) (t : Tree) (ts : Trees) (a b l leaf : Line) → IsLined known n i t leaf
+    → IsZeroFrom n leaf → sums_fit n a leaf ≡ true → b ≡ line_sum a leaf → SumsUpTo known n (i + tree_size t) ts b l
+    → SumsUpTo known n i (more t ts) a l
 one_more known n i t ts a b l leaf lined zero_from fit line rest =
     let same : leaf ≡ tree_line known t = is_line_by n (λ at. tree_given (known at) t at) leaf zero_from lined.1 in
     record {
       clean = ap (λ o. option_or o (trees_fault known n (i + tree_size t) ts)) lined.0 ∙ rest.clean;
       lines = (same_values n (λ at. tree_given (known at) t at) (tree_line known t) leaf (sym same) lined.1, rest.lines);
-      fit = subst (λ m. sums_fit n a m && running_sums_fit n (line_sum a m) (trees_lines known ts) ≡ true) same (and_from _ _ fit (ap (λ m. running_sums_fit n m (trees_lines known ts)) (sym line) ∙ rest.fit));
+      fit = subst (λ m. sums_fit n a m && running_sums_fit n (line_sum a m) (trees_lines known ts) ≡ true) same
+          (and_from _ _ fit (ap (λ m. running_sums_fit n m (trees_lines known ts)) (sym line) ∙ rest.fit));
       sum = subst (λ m. running_line (line_sum a m) (trees_lines known ts) ≡ l) same (ap (λ m. running_line m (trees_lines known ts)) (sym line) ∙ rest.sum);
     }
 
 -- a sum of trees that begins at 0
-pub sum_folded : (known : Point → Known) (n : ℕ) (ts : Trees) (l : Line) (form : Form) → 1 ≤ count_of ts → SumsUpTo known n 1 ts zero_line l → form_line form ≡ l → IsFolded known n 0 (operator SumOfAll ts) (Whole form)
+pub sum_folded : (known : Point → Known) (n : ℕ) (ts : Trees) (l : Line) (form : Form) → 1 ≤ count_of ts
+    → SumsUpTo known n 1 ts zero_line l → form_line form ≡ l → IsFolded known n 0 (operator SumOfAll ts) (Whole form)
 sum_folded known n none l form some s is = absurd (omega arith)
 sum_folded known n (more t ts) l form some s is =
     let first = tree_line known t in
@@ -401,11 +435,16 @@ unfolding class_of
 list_class = refl
 
 -- the leaf at a place before trees of the nodes after it
-pub leaf_more : (known : Point → Known) (n : ℕ) (ns : List Node) (place m count : ℕ) (leaf : Leaf) (old new : LeafSum) (l : Line) → IsLeafAt ns place leaf → AddsLeaf n old leaf.variable leaf.factor new → count ≡ suc m → SumsUpTo known n (place + leaf.size) (first_trees m (trees_of (drop (place + leaf.size) ns))) (leaves_line new) l → SumsUpTo known n place (first_trees count (trees_of (drop place ns))) (leaves_line old) l
+pub leaf_more : (known : Point → Known) (n : ℕ) (ns : List Node) (place m count : ℕ) (leaf : Leaf) (old new : LeafSum)
+    (l : Line) → IsLeafAt ns place leaf → AddsLeaf n old leaf.variable leaf.factor new → count ≡ suc m
+    → SumsUpTo known n (place + leaf.size) (first_trees m (trees_of (drop (place + leaf.size) ns))) (leaves_line new) l
+    → SumsUpTo known n place (first_trees count (trees_of (drop place ns))) (leaves_line old) l
 leaf_more known n ns place m count leaf old new l at adds e rest =
     let left = trees_of (drop (place + leaf.size) ns) in
     subst₂ (λ k ts. SumsUpTo known n place (first_trees k ts) (leaves_line old) l) (sym e) (sym at.trees)
-    (one_more known n place at.tree (first_trees m left) (leaves_line old) (leaves_line new) l (leaf_line leaf.variable (dec_value leaf.factor)) (at.lined known n place adds.fine adds.inside) (leaf_zero_from n leaf.variable (dec_value leaf.factor) adds.inside) adds.fit adds.line
+    (one_more known n place at.tree (first_trees m left) (leaves_line old) (leaves_line new) l
+    (leaf_line leaf.variable (dec_value leaf.factor)) (at.lined known n place adds.fine adds.inside)
+    (leaf_zero_from n leaf.variable (dec_value leaf.factor) adds.inside) adds.fit adds.line
     (subst (λ s. SumsUpTo known n (place + s) (first_trees m left) (leaves_line new) l) (sym at.size) rest))
 
 -- no leaf is left
@@ -413,11 +452,17 @@ pub leaves_end : (known : Point → Known) (n place left : ℕ) (ts : List Tree)
 leaves_end known n place left ts l e = subst (λ k. SumsUpTo known n place (first_trees k ts) l l) (sym e) (nothing_more known n place l)
 
 -- the multiple at a place before trees of the nodes after it
-pub multiple_more : (known : Point → Known) (n : ℕ) (ns : List Node) (place least k count : ℕ) (m : Multiple) (old new : List Term) (l : Line) → IsMultipleAt ns place m → AreBelow least old → Appends n least old m new → count ≡ suc k → SumsUpTo known n (place + m.size) (first_trees k (trees_of (drop (place + m.size) ns))) (parts_line zero_ℚ new) l → SumsUpTo known n place (first_trees count (trees_of (drop place ns))) (parts_line zero_ℚ old) l
+pub multiple_more : (known : Point → Known) (n : ℕ) (ns : List Node) (place least k count : ℕ) (m : Multiple)
+    (old new : List Term) (l : Line) → IsMultipleAt ns place m → AreBelow least old → Appends n least old m new
+    → count ≡ suc k → SumsUpTo known n (place + m.size) (first_trees k (trees_of (drop (place + m.size) ns)))
+    (parts_line zero_ℚ new) l → SumsUpTo known n place (first_trees count (trees_of (drop place ns)))
+    (parts_line zero_ℚ old) l
 multiple_more known n ns place least k count m old new l at below adds e rest =
     let left = trees_of (drop (place + m.size) ns) in
     subst₂ (λ c ts. SumsUpTo known n place (first_trees c ts) (parts_line zero_ℚ old) l) (sym e) (sym at.trees)
-    (one_more known n place at.tree (first_trees k left) (parts_line zero_ℚ old) (parts_line zero_ℚ new) l (multiple_line m.variable (frac_value m.factor)) (at.lined known n place adds.inside) (multiple_zero_from n m.variable (frac_value m.factor) adds.inside)
+    (one_more known n place at.tree (first_trees k left) (parts_line zero_ℚ old) (parts_line zero_ℚ new) l
+    (multiple_line m.variable (frac_value m.factor)) (at.lined known n place adds.inside)
+    (multiple_zero_from n m.variable (frac_value m.factor) adds.inside)
     (term_fits old least m.variable m.factor below adds.up n zero_ℚ fits_zero)
     (ap (parts_line zero_ℚ) adds.terms ∙ term_line old least m.variable m.factor below adds.up zero_ℚ)
     (subst (λ s. SumsUpTo known n (place + s) (first_trees k left) (parts_line zero_ℚ new) l) (sym at.size) rest))
@@ -433,14 +478,19 @@ terms_more n least m old new held adds =
     }
 
 -- ---- the form
-list_folded : (known : Point → Known) (n : ℕ) (ns : List Node) (k : ℕ) (l : Line) (form : Form) (t : Tree) → IsTreeFormed t → IsListOf ns k → trees_of ns ≡ t ∷ [] → SumsUpTo known n 1 (first_trees k (trees_of (drop 1 ns))) zero_line l → form_line form ≡ l → IsFolded known n 0 t (Whole form)
+list_folded : (known : Point → Known) (n : ℕ) (ns : List Node) (k : ℕ) (l : Line) (form : Form) (t : Tree)
+    → IsTreeFormed t → IsListOf ns k → trees_of ns ≡ t ∷ [] → SumsUpTo known n 1 (first_trees k (trees_of (drop 1 ns)))
+    zero_line l → form_line form ≡ l → IsFolded known n 0 t (Whole form)
 list_folded known n ns k l form t formed list one s is =
     let ts = first_trees k (trees_of (drop 1 ns)) in
     let same : operator (class_of 54) ts ≡ t = sym (ap (λ xs. first_of_trees (trees_of xs)) list.first) ∙ ap first_of_trees one in
     let some : 1 ≤ count_of ts = subst (λ c. Takes (rule_of c) (count_of ts)) list_class (subst IsTreeFormed (sym same) formed).0 in
     subst (λ u. IsFolded known n 0 u (Whole form)) (ap (λ c. operator c ts) (sym list_class) ∙ same) (sum_folded known n ts l form some s is)
 
-pub form_of_terms : (n least : ℕ) (ns : List Node) (k : ℕ) (c : ℚ) (ts : List Term) (form : Form) → IsListOf ns k → least ≤ n → AreBelow least ts → ((known : Point → Known) → SumsUpTo known n 1 (first_trees k (trees_of (drop 1 ns))) zero_line (parts_line c ts)) → form_line form ≡ parts_line c ts → IsFormOf n ns form
+pub form_of_terms : (n least : ℕ) (ns : List Node) (k : ℕ) (c : ℚ) (ts : List Term) (form : Form) → IsListOf ns k
+    → least ≤ n → AreBelow least ts → ((known : Point → Known)
+    → SumsUpTo known n 1 (first_trees k (trees_of (drop 1 ns))) zero_line (parts_line c ts))
+    → form_line form ≡ parts_line c ts → IsFormOf n ns form
 form_of_terms n least ns k c ts form list few below sums line =
     record {
       folded = λ known t formed one. list_folded known n ns k (parts_line c ts) form t formed list one (sums known) line;

@@ -1,19 +1,21 @@
 -- The parts of a tree, and what the operators on them come to.
-use Rattle.std.proofs.Common.{◌≡◌, ◌≢◌, ℕ, ◌+◌, ◌-◌, ◌<◌, ◌≤◌, ◌==◌, ◌∙◌, sym, ap, ap₂, refl, subst, Bool, true, false, ◌&&◌, Result, Ok, Err, List, [], ◌∷◌, ◌++◌, take, drop, reverse, length, get_or, length-drop, arith, ⊎_elim, ◌*◌, subst₂, Option, Some, IfOk, map, if◌then◌else◌}
+use Rattle.std.proofs.Common.{◌≡◌, ◌≢◌, ℕ, ◌+◌, ◌-◌, ◌<◌, ◌≤◌, ◌==◌, ◌∙◌, sym, ap, ap₂, refl, subst, Bool, true, false}
+use Rattle.std.proofs.Common.{◌&&◌, Result, Ok, Err, List, [], ◌∷◌, ◌++◌, take, drop, reverse, length, get_or}
+use Rattle.std.proofs.Common.{length-drop, arith, ⊎_elim, ◌*◌, subst₂, Option, Some, IfOk, map, if◌then◌else◌}
 use Rattle.std.proofs.Math.Bool.{and-false, and-true}
 use Rattle.std.proofs.lemmas.Bool.{cases_eq, eq-eqb, and_from, and_parts, false_from_ne_true, cases_lt}
 use Rattle.std.proofs.lemmas.List.{length-reverse, reverse-append, take_all, take_more, take-append-drop}
 use Rattle.std.proofs.Math.Seq.{take-append_seam, drop-append_seam}
-use Rattle.texts.specs.declared.stop.Stop.{Stop}
-use Rattle.texts.specs.declared.stop.Stop.TheVariants.{Fault as Stopped, Memory, Fault}
+use Rattle.text_base.specs.declared.stop.Stop.{Stop}
+use Rattle.text_base.specs.declared.stop.Stop.TheVariants.{Fault as Stopped, Memory, Fault}
 use Rattle.exact_numbers.specs.declared.frac.Frac.{Frac}
 use Rattle.exact_numbers.specs.Values.{frac_value}
 use Rattle.exact_numbers.proofs.Bridge.{frac_fits_lem}
-use Rattle.fractions.specs.Fits.{fits, sum_fits}
-use Rattle.fractions.specs.Rational.{ℚ, zero_ℚ, ◌+ℚ◌, ◌*ℚ◌, one_ℚ, neg_ℚ, inverse_of}
-use Rattle.fractions.proofs.Arithmetic.{*ℚ_one, *ℚ_zero, +ℚ_zero, zero-+ℚ, one-*ℚ, neg-*ℚ, zero-is_zero}
-use Rattle.program_meaning.specs.Lines.{constant_line, line_scaled, line_sum, products_fit, Line, is_zero, is_constant, one_if, line_neg, sums_fit, all_below}
-use Rattle.program_meaning.proofs.LineLemmas.{all_below-true, apart-eqb}
+use Rattle.exact_numbers.specs.Fits.{fits, sum_fits}
+use Rattle.exact_numbers.specs.Rational.{ℚ, zero_ℚ, ◌+ℚ◌, ◌*ℚ◌, one_ℚ, neg_ℚ, inverse_of}
+use Rattle.exact_numbers.proofs.RationalLaws.{*ℚ_one, *ℚ_zero, +ℚ_zero, zero-+ℚ, one-*ℚ, neg-*ℚ, zero-is_zero}
+use Rattle.linear_program.specs.Lines.{constant_line, line_scaled, line_sum, products_fit, Line, is_zero, is_constant, one_if, line_neg, sums_fit, all_below}
+use Rattle.linear_program.proofs.LineLemmas.{all_below-true, apart-eqb}
 use Rattle.linear_program.specs.declared.form.Form.{Form}
 use Rattle.linear_fold.specs.declared.parts.PartialForm.{PartialForm}
 use Rattle.linear_fold.specs.declared.parts.PartialForm.TheVariants.{Number, Variable, Linear, Opposite, Broken}
@@ -28,9 +30,9 @@ use Rattle.linear_program.proofs.Scaled.{all_below-false, all_below-intro, same_
 use Rattle.std.proofs.Math.Nat.{mul-le-mul_left}
 use Rattle.code_tables.specs.declared.class.OpClass.{OpClass}
 use Rattle.code_tables.specs.declared.class.OpClass.TheVariants.{Quotient}
-use Rattle.nl_meaning.specs.declared.Reason.{Reason}
-use Rattle.nl_meaning.specs.declared.Reason.TheVariants.{DivideByZero}
-use Rattle.nl_meaning.specs.Faults.{too_wide_unless, operator_fault}
+use Rattle.nl_model.specs.declared.fault.Reason.{Reason}
+use Rattle.nl_model.specs.declared.fault.Reason.TheVariants.{DivideByZero}
+use Rattle.nl_model.specs.Faults.{too_wide_unless, operator_fault}
 use Rattle.linear_fold.specs.declared.operate.Outcome.{Outcome}
 use Rattle.linear_fold.specs.declared.operate.Outcome.TheVariants.{Linear as Made, Refused}
 
@@ -63,7 +65,9 @@ multiple_of_zero j k c e f = same_line (constant_line c) (multiple_line j k) f (
 pub multiple_term : (k : Frac) (j : ℕ) (c : ℚ) → c ≡ zero_ℚ → (record { constant = c; coef = coef_in ((j, k) ∷ []) }) ≡ multiple_line j (frac_value k)
 multiple_term k j c e =
     same_line (record { constant = c; coef = coef_in ((j, k) ∷ []) }) (multiple_line j (frac_value k)) e
-    (adds_at (λ i. zero_ℚ) (coef_in ((j, k) ∷ [])) j (frac_value k) (ap value_or_zero (found_same (j, k) [] j refl) ∙ sym (zero-+ℚ (frac_value k))) (λ i n. ap value_or_zero (found_apart (j, k) [] i n)))
+    (adds_at (λ i. zero_ℚ) (coef_in ((j, k) ∷ [])) j (frac_value k)
+    (ap value_or_zero (found_same (j, k) [] j refl) ∙ sym (zero-+ℚ (frac_value k)))
+    (λ i n. ap value_or_zero (found_apart (j, k) [] i n)))
 
 -- ---- k times a number, and k times a multiple
 module _ (n : ℕ) (k x : ℚ) where
@@ -222,7 +226,9 @@ module _ (a b : Line) (k : ℚ) (kb : Line) (is : line_scaled k b ≡ kb) (small
         product = parts.constant;
         sum = both.0;
         products = parts.coefs;
-        sums = each_below (λ i. sum_fits (a.coef i) (k *ℚ b.coef i)) n both.1 (λ j g. ap₂ (λ x y. sum_fits x (k *ℚ y)) (za j g) (zb j g) ∙ ap (sum_fits zero_ℚ) (*ℚ_zero k) ∙ sum_fits_zero zero_ℚ fits_zero);
+        sums = each_below (λ i. sum_fits (a.coef i) (k *ℚ b.coef i)) n both.1
+            (λ j g. ap₂ (λ x y. sum_fits x (k *ℚ y)) (za j g) (zb j g) ∙ ap (sum_fits zero_ℚ) (*ℚ_zero k)
+            ∙ sum_fits_zero zero_ℚ fits_zero);
       }))
 
   pub added : (new : Line) (r : Result (Unit {0}) (Stop Wide)) → AddsScaled a k b new r → SumsTo (sums_fit n a kb) (line_sum a kb) new r
@@ -272,7 +278,8 @@ fault_second false x y e = refl
 pub quotient_zero : (n : ℕ) (a b : Line) → is_constant n b ≡ true → is_zero b.constant ≡ true → operator_fault n Quotient (a ∷ b ∷ []) ≡ Some DivideByZero
 quotient_zero n a b t z = fault_first _ _ _ t ∙ fault_first _ _ _ z
 
-pub quotient_comes : (n : ℕ) (a b : Line) (o : Outcome) (k : ℚ) → k ≡ inverse_of b.constant → is_constant n b ≡ true → is_zero b.constant ≡ false → ComesTo n (products_fit n k a) (line_scaled k a) o → Operates n Quotient (a ∷ b ∷ []) o
+pub quotient_comes : (n : ℕ) (a b : Line) (o : Outcome) (k : ℚ) → k ≡ inverse_of b.constant → is_constant n b ≡ true
+    → is_zero b.constant ≡ false → ComesTo n (products_fit n k a) (line_scaled k a) o → Operates n Quotient (a ∷ b ∷ []) o
 quotient_comes n a b (Made f) k is t z h = (
   fault_first _ _ _ t ∙ fault_second _ _ _ z ∙ ap too_wide_unless (ap (λ x. products_fit n x a) (sym is) ∙ h.0),
   h.1 ∙ ap (λ x. line_scaled x a) is,

@@ -1,5 +1,6 @@
 -- Terms in another order, of which no two have one variable.
-use Rattle.std.proofs.Common.{◌≡◌, ◌≢◌, ℕ, suc, zero, ◌+◌, ◌<◌, ◌≤◌, ◌∙◌, sym, ap, refl, subst, arith, true, false, ◌==◌, Bool, cond, None, List, [], ◌∷◌, length, drop, All, get_or, set, sum_by, ⊎_elim}
+use Rattle.std.proofs.Common.{◌≡◌, ◌≢◌, ℕ, suc, zero, ◌+◌, ◌<◌, ◌≤◌, ◌∙◌, sym, ap, refl, subst, arith, true, false}
+use Rattle.std.proofs.Common.{◌==◌, Bool, cond, None, List, [], ◌∷◌, length, drop, All, get_or, set, sum_by, ⊎_elim}
 use Rattle.std.specs.Option.{option_or}
 use Rattle.std.specs.List.Sorted.{IsPermutation}
 use Rattle.std.proofs.lemmas.Bool.{and_from, cases_eq, eq-eqb, eqb-true}
@@ -10,16 +11,16 @@ use Rattle.std.proofs.lemmas.List.Sorted.{All-permutation, IsPermutation-keeps, 
 use Rattle.std.proofs.lemmas.List.Sums.{sum_by-cons}
 use Rattle.exact_numbers.specs.Values.{dec_value}
 use Rattle.exact_numbers.proofs.Zeros.{zero_frac_fits}
-use Rattle.fractions.specs.Fits.{fits, sum_fits}
-use Rattle.fractions.specs.Rational.{ℚ, zero_ℚ, ◌+ℚ◌, ◌*ℚ◌}
-use Rattle.fractions.specs.Sums.{sum_over}
-use Rattle.fractions.proofs.Adding.{sum_over_nil, sum_over_cons}
-use Rattle.fractions.proofs.Arithmetic.{+ℚ_assoc, +ℚ_cancel, +ℚ_zero, *ℚ_zero}
-use Rattle.fractions.proofs.Ring.{ring, v, ◌⊕◌}
-use Rattle.program_meaning.specs.Lines.{Line, line_with, one_if}
-use Rattle.program_meaning.proofs.LineLemmas.{apart-eqb}
-use Rattle.nl_meaning.specs.Faults.{fault_at, line_with_terms, terms_fault, too_wide_unless}
-use Rattle.file_meaning.specs.Expressions.{linear_terms}
+use Rattle.exact_numbers.specs.Fits.{fits, sum_fits}
+use Rattle.exact_numbers.specs.Rational.{ℚ, zero_ℚ, ◌+ℚ◌, ◌*ℚ◌}
+use Rattle.exact_numbers.specs.Sums.{sum_over}
+use Rattle.exact_numbers.proofs.Adding.{sum_over_nil, sum_over_cons}
+use Rattle.exact_numbers.proofs.RationalLaws.{+ℚ_assoc, +ℚ_cancel, +ℚ_zero, *ℚ_zero}
+use Rattle.exact_numbers.proofs.Ring.{ring, v, ◌⊕◌}
+use Rattle.linear_program.specs.Lines.{Line, line_with, one_if}
+use Rattle.linear_program.proofs.LineLemmas.{apart-eqb}
+use Rattle.nl_model.specs.Faults.{fault_at, line_with_terms, terms_fault, too_wide_unless}
+use Rattle.nl_model.specs.Expressions.{linear_terms}
 use Rattle.linear_program.specs.Decimals.{DecimalTerm, frac_of}
 use Rattle.linear_program.proofs.DecimalLemmas.{frac_of-value}
 use Rattle.linear_program.proofs.Scaled.{same_line}
@@ -132,10 +133,13 @@ no_fault a i (t ∷ ts) fit few new =
     ap (λ b. option_or (fault_at i (too_wide_unless b)) (terms_fault (line_with a t.0 x) (i + 1) (linear_terms ts))) (and_from _ _ fine sum_fine) ∙ rest
 
 -- ---- what terms come to in order
-pub kept_more : (ts : List DecimalTerm) (i : ℕ) (t : DecimalTerm) (all : Type 0) → drop i ts ≡ t ∷ drop (i + 1) ts → fits (dec_value t.1) ≡ true → (All Fits (drop i ts) → all) → All Fits (drop (i + 1) ts) → all
+pub kept_more : (ts : List DecimalTerm) (i : ℕ) (t : DecimalTerm) (all : Type 0) → drop i ts ≡ t ∷ drop (i + 1) ts
+    → fits (dec_value t.1) ≡ true → (All Fits (drop i ts) → all) → All Fits (drop (i + 1) ts) → all
 kept_more ts i t all at fine h rest = h (subst (All Fits) (sym at) (All-cons Fits t (drop (i + 1) ts) fine rest))
 
-pub in_order : (a : Line) (i : ℕ) (ts ordered : List DecimalTerm) (e : Entry) → All Fits ts → IsPermutation ts ordered → AreStrictlyAscending 0 (linear_terms ordered) → ((j : ℕ) → a.coef j ≡ zero_ℚ) → ComesToTerms a i (linear_terms ordered) e → ComesToTerms a i (linear_terms ts) e
+pub in_order : (a : Line) (i : ℕ) (ts ordered : List DecimalTerm) (e : Entry) → All Fits ts → IsPermutation ts ordered
+    → AreStrictlyAscending 0 (linear_terms ordered) → ((j : ℕ) → a.coef j ≡ zero_ℚ)
+    → ComesToTerms a i (linear_terms ordered) e → ComesToTerms a i (linear_terms ts) e
 in_order a i ts ordered (Linear form) fit moved up new h = (
   no_fault a i ts fit (λ j. omega (arith, sum_by-IsPermutation (once j) ts ordered moved, (ascending_once 0 j ordered up).0)) (λ j some. new j),
   h.1 ∙ same_terms a ts ordered moved,

@@ -1,20 +1,23 @@
 -- What the fold of one owner finds in its file, and where its fault is.
-use Rattle.std.proofs.Common.{◌≡◌, ◌⊎◌, inl, inr, ℕ, zero, suc, ◌+◌, ◌-◌, ◌^◌, ◌<◌, ◌≤◌, ◌∙◌, sym, ap, refl, subst, subst₂, arith, ⊎_elim, Bool, true, false, nat_lt, ◌==◌, not, ◌&&◌, ◌||◌, IsTrue, is_some, pos, if◌then◌else◌, Option, Some, None, IfSome, option_map, option_and_then, List, [], ◌∷◌, ◌++◌, length, take, get_or, slice_get, All, append_assoc, append-nil}
+use Rattle.std.proofs.Common.{◌≡◌, ◌⊎◌, inl, inr, ℕ, zero, suc, ◌+◌, ◌-◌, ◌^◌, ◌<◌, ◌≤◌, ◌∙◌, sym, ap, refl, subst}
+use Rattle.std.proofs.Common.{subst₂, arith, ⊎_elim, Bool, true, false, nat_lt, ◌==◌, not, ◌&&◌, ◌||◌, IsTrue, is_some}
+use Rattle.std.proofs.Common.{pos, if◌then◌else◌, Option, Some, None, IfSome, option_map, option_and_then, List, []}
+use Rattle.std.proofs.Common.{◌∷◌, ◌++◌, length, take, get_or, slice_get, All, append_assoc, append-nil}
 use Rattle.std.specs.Option.{option_or, option_map_or}
 use Rattle.std.proofs.lemmas.Bool.{lt-ltb, le-ltb, ne_eqb}
 use Rattle.std.proofs.lemmas.Option.{get_or_from_slice_get, slice_get_within}
 use Rattle.std.proofs.lemmas.List.Sums.{get_or-le-sum_by}
-use Rattle.fractions.specs.Rational.{decimal_value}
-use Rattle.fractions.specs.Fits.{fits, sum_fits}
+use Rattle.exact_numbers.specs.Rational.{decimal_value}
+use Rattle.exact_numbers.specs.Fits.{fits, sum_fits}
 use Rattle.exact_numbers.proofs.Bridge.{zero_decimal}
-use Rattle.nl_meaning.specs.declared.Fault.{Fault}
-use Rattle.nl_meaning.specs.declared.Reason.{Reason}
-use Rattle.nl_meaning.specs.declared.Reason.TheVariants.{Nonlinear as IsNonlinear}
-use Rattle.program_meaning.specs.Lines.{Line, constant_line, line_with, Point}
-use Rattle.nl_meaning.specs.Faults.{fault_at, too_wide_unless, tree_fault, trees_fault, terms_fault, expression_fault, tree_line, trees_lines, operator_fault}
-use Rattle.nl_meaning.specs.Trees.{Known, Tree, number, variable, defined, operator, Trees, none, more, Expression, expression_given, tree_size, trees_size}
-use Rattle.nl_meaning.proofs.Linear.{terms_added}
-use Rattle.program_meaning.proofs.LineLemmas.{same_coef}
+use Rattle.nl_model.specs.declared.fault.Fault.{Fault}
+use Rattle.nl_model.specs.declared.fault.Reason.{Reason}
+use Rattle.nl_model.specs.declared.fault.Reason.TheVariants.{Nonlinear as IsNonlinear}
+use Rattle.linear_program.specs.Lines.{Line, constant_line, line_with, Point}
+use Rattle.nl_model.specs.Faults.{fault_at, too_wide_unless, tree_fault, trees_fault, terms_fault, expression_fault, tree_line, trees_lines, operator_fault}
+use Rattle.nl_model.specs.Trees.{Known, Tree, number, variable, defined, operator, Trees, none, more, Expression, expression_given, tree_size, trees_size}
+use Rattle.nl_model.proofs.Linear.{terms_added}
+use Rattle.linear_program.proofs.LineLemmas.{same_coef}
 use Rattle.nl_model.specs.declared.at.At.{At}
 use Rattle.nl_model.specs.declared.at.At.TheVariants.{Node, Term as TermOf, Head}
 use Rattle.nl_model.specs.declared.at.Owner.{Owner}
@@ -24,8 +27,8 @@ use Rattle.nl_model.specs.declared.definition.Def.{Def as Definition}
 use Rattle.nl_model.specs.FilePlaces.{HasPlace, terms_at, tree_at}
 use Rattle.nl_model.specs.HeaderRules.{defined_count}
 use Rattle.nl_model.specs.Rules.{AreDefinitions, AreTermsBelow, AreTreesWithin, IsDefinition, IsFile, IsTreeKnown, IsTreeWithin, is_defined, most_terms}
-use Rattle.file_meaning.specs.Expressions.{linear_terms, tree_or_zero}
-use Rattle.file_meaning.specs.FoldFaults.{Owned, at_place, coefficient_count, fold_too_large, head_fault, most_coefficients, owned_line, owners_fault}
+use Rattle.nl_model.specs.Expressions.{linear_terms, tree_or_zero}
+use Rattle.nl_model.specs.FoldFaults.{Owned, at_place, coefficient_count, fold_too_large, head_fault, most_coefficients, owned_line, owners_fault}
 use Rattle.linear_fold.specs.declared.fold_fault.FoldFault.TheVariants.{FoldTooLarge}
 use Rattle.linear_program.specs.declared.form.Form.{Form}
 use Rattle.linear_fold.specs.FoldedFaults.{HasFaultPlace, fault_for, named_fault, place_at}
@@ -73,11 +76,14 @@ mutual
   trees_given n ds slots h (more t ts) w = (tree_given n ds slots h t w.0, trees_given n ds slots h ts w.1)
 
 -- ---- what an owner has
-body_given : (n : ℕ) (ds : List Definition) (slots : List (Option Form)) → ((i : ℕ) → is_defined ds i ≡ true → IsGiven n slots i) → (b : Option Tree) → IfSome b (IsTreeKnown n ds) → IfSome b (IsTreeGiven n slots)
+body_given : (n : ℕ) (ds : List Definition) (slots : List (Option Form))
+    → ((i : ℕ) → is_defined ds i ≡ true → IsGiven n slots i) → (b : Option Tree) → IfSome b (IsTreeKnown n ds)
+    → IfSome b (IsTreeGiven n slots)
 body_given n ds slots h None w = w
 body_given n ds slots h (Some t) w = tree_given n ds slots h t w.within
 
-pub owner_given : (f : File) → IsFile f → (o : Owner) → HasOwner f o → (slots : List (Option Form)) → AreSlotsOf f (definitions_before f o) slots → IfSome (tree_at f o) (IsTreeGiven f.counts.n_var slots)
+pub owner_given : (f : File) → IsFile f → (o : Owner) → HasOwner f o → (slots : List (Option Form))
+    → AreSlotsOf f (definitions_before f o) slots → IfSome (tree_at f o) (IsTreeGiven f.counts.n_var slots)
 owner_given f file (Def i) has slots s =
     let d = there f.definitions i has in
     let known = definition_at f.counts.n_var (defined_count f.counts) [] f.definitions file.definitions i d.0 d.1 in
@@ -142,13 +148,20 @@ terms_place i (t ∷ ts) a x h =
 
 -- at a node that was given, or at a term
 abbrev IsAmong : Option Tree → List Term → ℕ → Type 0
-IsAmong t ts p = ((p < tree_size (tree_or_zero t)) × (p < option_map_or tree_size t 0)) ⊎ ((tree_size (tree_or_zero t) ≤ p) × (p - tree_size (tree_or_zero t) < length ts) × (p < tree_size (tree_or_zero t) + length ts))
+IsAmong t ts p = ((p < tree_size (tree_or_zero t)) × (p < option_map_or tree_size t 0)) ⊎
+    ((tree_size (tree_or_zero t) ≤ p) × (p - tree_size (tree_or_zero t) < length ts)
+    × (p < tree_size (tree_or_zero t) + length ts))
 
-node_among : (known : Point → Known) (n : ℕ) (t : Option Tree) (x : Fault) → tree_fault known n 0 (tree_or_zero t) ≡ Some x → (x.place < tree_size (tree_or_zero t)) × (x.place < option_map_or tree_size t 0)
-node_among known n None x h = absurd (let clash : None ≡ Some x = sym (ap (λ q. fault_at 0 (too_wide_unless (fits q))) (zero_decimal (pos 0)) ∙ ap (λ b. fault_at 0 (too_wide_unless b)) fits_zero) ∙ h in cc)
+node_among : (known : Point → Known) (n : ℕ) (t : Option Tree) (x : Fault)
+    → tree_fault known n 0 (tree_or_zero t) ≡ Some x → (x.place < tree_size (tree_or_zero t))
+    × (x.place < option_map_or tree_size t 0)
+node_among known n None x h = absurd (let clash : None ≡ Some x =
+    sym (ap (λ q. fault_at 0 (too_wide_unless (fits q))) (zero_decimal (pos 0))
+    ∙ ap (λ b. fault_at 0 (too_wide_unless b)) fits_zero) ∙ h in cc)
 node_among known n (Some t) x h = let r = tree_place known n 0 t x h in (omega (arith, r.1), omega (arith, r.1))
 
-pub expression_among : (known : Point → Known) (n : ℕ) (t : Option Tree) (ts : List Term) (x : Fault) → expression_fault known n (record { tree = tree_or_zero t; terms = linear_terms ts }) ≡ Some x → IsAmong t ts x.place
+pub expression_among : (known : Point → Known) (n : ℕ) (t : Option Tree) (ts : List Term) (x : Fault)
+    → expression_fault known n (record { tree = tree_or_zero t; terms = linear_terms ts }) ≡ Some x → IsAmong t ts x.place
 expression_among known n t ts x h =
     let size = tree_size (tree_or_zero t) in
     either_fault (tree_fault known n 0 (tree_or_zero t)) (terms_fault (tree_line known (tree_or_zero t)) size (linear_terms ts)) x (λ e. inl (node_among known n t x e))
@@ -173,11 +186,16 @@ owner_place f o r p among =
     fault_placed f r (place_at f o p)
     (⊎_elim
     (λ (a : (p < size) × (p < option_map_or tree_size (tree_at f o) 0)). chosen (HasPlace f) (nat_lt p size) true (Node o p) (TermOf o (p - size)) (lt-ltb p size a.0) a.1)
-    (λ (a : (size ≤ p) × (p - size < length (terms_at f o)) × (p < size + length (terms_at f o))). chosen (HasPlace f) (nat_lt p size) false (Node o p) (TermOf o (p - size)) (le-ltb p size a.0) a.1) among)
+    (λ (a : (size ≤ p) × (p - size < length (terms_at f o)) × (p < size + length (terms_at f o))). chosen (HasPlace f)
+    (nat_lt p size) false (Node o p) (TermOf o (p - size)) (le-ltb p size a.0) a.1) among)
 
 -- ---- what the fold of an expression says of an owner
-module _ (f : File) (o : Owner) (v : ℕ) (t : Option Tree) (ts : List Term) (slots seen : List (Option Form)) (count : v ≡ f.counts.n_var) (tree : t ≡ tree_at f o) (terms : ts ≡ terms_at f o) (view : seen ≡ slots) (s : AreSlotsOf f (definitions_before f o) slots) where
-  pub entry_seen : (e : Entry) → ((known : Point → Known) → AreKnown v known seen → IsExpressionFolded known v (record { tree = tree_or_zero t; terms = linear_terms ts }) e) → IsExpressionFolded (known_by (definitions_before f o)) f.counts.n_var (expression_at f o) e
+module _ (f : File) (o : Owner) (v : ℕ) (t : Option Tree) (ts : List Term) (slots seen : List (Option Form))
+    (count : v ≡ f.counts.n_var) (tree : t ≡ tree_at f o) (terms : ts ≡ terms_at f o) (view : seen ≡ slots)
+    (s : AreSlotsOf f (definitions_before f o) slots) where
+  pub entry_seen : (e : Entry) → ((known : Point → Known) → AreKnown v known seen
+      → IsExpressionFolded known v (record { tree = tree_or_zero t; terms = linear_terms ts }) e)
+      → IsExpressionFolded (known_by (definitions_before f o)) f.counts.n_var (expression_at f o) e
   entry_seen e h =
       let k = known_by (definitions_before f o) in
       let are : AreKnown v k seen = subst₂ (λ m q. AreKnown m k q) (sym count) (sym view) s.known in
@@ -200,20 +218,29 @@ module _ (f : File) (o : Owner) (before : ℕ) where
   abbrev total : ℕ
   total = before + coefficient_count width (owned_line (owned_at f o))
 
-  pub broken_folded : (x : Fault) → expression_fault (known_by (definitions_before f o)) width (expression_at f o) ≡ Some x → (rest : List Owned) → option_map (named_fault f) (owners_fault width before (owned_at f o ∷ rest)) ≡ Some (fault_for x.reason (place_at f o x.place))
+  pub broken_folded : (x : Fault) → expression_fault (known_by (definitions_before f o)) width (expression_at f o)
+      ≡ Some x → (rest : List Owned) → option_map (named_fault f) (owners_fault width before (owned_at f o ∷ rest))
+      ≡ Some (fault_for x.reason (place_at f o x.place))
   broken_folded x h rest =
       ap (λ e. option_map (named_fault f) (option_or (option_or (option_map (at_place o) e) (head_fault o total)) (owners_fault width total rest))) h
 
-  clean : expression_fault (known_by (definitions_before f o)) width (expression_at f o) ≡ None → (rest : List Owned) → owners_fault width before (owned_at f o ∷ rest) ≡ option_or (head_fault o total) (owners_fault width total rest)
+  clean : expression_fault (known_by (definitions_before f o)) width (expression_at f o) ≡ None → (rest : List Owned)
+      → owners_fault width before (owned_at f o ∷ rest) ≡ option_or (head_fault o total) (owners_fault width total rest)
   clean h rest = ap (λ e. option_or (option_or (option_map (at_place o) e) (head_fault o total)) (owners_fault width total rest)) h
 
-  pub linear_folded : (extra after : ℕ) → expression_fault (known_by (definitions_before f o)) width (expression_at f o) ≡ None → coefficient_count width (owned_line (owned_at f o)) ≡ extra → after ≡ before + extra → after ≤ most_coefficients → (rest : List Owned) → owners_fault width before (owned_at f o ∷ rest) ≡ owners_fault width after rest
+  pub linear_folded : (extra after : ℕ) → expression_fault (known_by (definitions_before f o)) width (expression_at f o)
+      ≡ None → coefficient_count width (owned_line (owned_at f o)) ≡ extra → after ≡ before + extra
+      → after ≤ most_coefficients → (rest : List Owned) → owners_fault width before (owned_at f o ∷ rest)
+      ≡ owners_fault width after rest
   linear_folded extra after h c e few rest =
       let same : total ≡ after = ap (λ m. before + m) c ∙ sym e in
       clean h rest ∙ ap (λ m. option_or (head_fault o m) (owners_fault width m rest)) same
       ∙ ap (λ b. option_or (if b then Some (fold_too_large o) else None) (owners_fault width after rest)) (le-ltb most_coefficients after few)
 
-  pub large_folded : (extra : ℕ) → expression_fault (known_by (definitions_before f o)) width (expression_at f o) ≡ None → coefficient_count width (owned_line (owned_at f o)) ≡ extra → most_coefficients < before + extra → (rest : List Owned) → option_map (named_fault f) (owners_fault width before (owned_at f o ∷ rest)) ≡ Some (FoldTooLarge (Head o))
+  pub large_folded : (extra : ℕ) → expression_fault (known_by (definitions_before f o)) width (expression_at f o) ≡ None
+      → coefficient_count width (owned_line (owned_at f o)) ≡ extra → most_coefficients < before + extra
+      → (rest : List Owned) → option_map (named_fault f) (owners_fault width before (owned_at f o ∷ rest))
+      ≡ Some (FoldTooLarge (Head o))
   large_folded extra h c many rest =
       let same : total ≡ before + extra = ap (λ m. before + m) c in
       ap (option_map (named_fault f)) (clean h rest ∙ ap (λ m. option_or (head_fault o m) (owners_fault width m rest)) same)
@@ -226,15 +253,25 @@ head_of None (t ∷ ts) h = ap not (ne_eqb (length (t ∷ ts)) 0 (λ e. omega ar
 head_of (Some t) ts h = refl
 
 -- a missing tree without terms has no coefficients
-nothing_counted : (known : Point → Known) (n : ℕ) (t : Option Tree) (ts : List Term) (form : Form) → t ≡ None → ts ≡ [] → IsWithin n form → HasLineOf n (λ at. expression_given (known at) (record { tree = tree_or_zero t; terms = linear_terms ts }) at) form → coefficient_count n (form_line form) ≡ 0
+nothing_counted : (known : Point → Known) (n : ℕ) (t : Option Tree) (ts : List Term) (form : Form) → t ≡ None → ts ≡ []
+    → IsWithin n form → HasLineOf n (λ at. expression_given (known at)
+    (record { tree = tree_or_zero t; terms = linear_terms ts }) at) form → coefficient_count n (form_line form) ≡ 0
 nothing_counted known n t ts form e g within values =
     let empty : Expression = record { tree = tree_or_zero None; terms = [] } in
-    let here : HasLineOf n (λ at. expression_given (known at) empty at) form = subst₂ (λ u us. HasLineOf n (λ at. expression_given (known at) (record { tree = tree_or_zero u; terms = linear_terms us }) at) form) e g values in
+    let here : HasLineOf n (λ at. expression_given (known at) empty at) form =
+    subst₂ (λ u us. HasLineOf n (λ at. expression_given (known at)
+    (record { tree = tree_or_zero u; terms = linear_terms us }) at) form) e g values in
     let constant = terms_added n known empty (constant_line (decimal_value (pos 0) (pos 0))) tt (constant_lined n (decimal_value (pos 0) (pos 0))) in
     count_zero n (form_line form)
-    (λ j h. ap (λ l. l.coef j) (is_line_of n (λ at. expression_given (known at) empty at) form within here) ∙ same_coef n (λ at. expression_given (known at) empty at) (constant_line (decimal_value (pos 0) (pos 0))) constant j h)
+    (λ j h. ap (λ l. l.coef j) (is_line_of n (λ at. expression_given (known at) empty at) form within here)
+    ∙ same_coef n (λ at. expression_given (known at) empty at) (constant_line (decimal_value (pos 0) (pos 0)))
+    constant j h)
 
-pub head_placed : (f : File) (o : Owner) (form : Form) (before : ℕ) → IsWithin f.counts.n_var form → AreAscending 0 (form_terms form) → HasLineOf f.counts.n_var (λ at. expression_given (known_by (definitions_before f o) at) (expression_at f o) at) form → before ≤ most_coefficients → most_coefficients < before + length (form_terms form) → HasFaultPlace f (FoldTooLarge (Head o))
+pub head_placed : (f : File) (o : Owner) (form : Form) (before : ℕ) → IsWithin f.counts.n_var form
+    → AreAscending 0 (form_terms form) → HasLineOf f.counts.n_var
+    (λ at. expression_given (known_by (definitions_before f o) at) (expression_at f o) at) form
+    → before ≤ most_coefficients → most_coefficients < before + length (form_terms form)
+    → HasFaultPlace f (FoldTooLarge (Head o))
 head_placed f o form before within ascending values few many =
     head_of (tree_at f o) (terms_at f o)
     (λ e g.
@@ -247,7 +284,9 @@ head_placed f o form before within ascending values few many =
 pub owner_line : (f : File) (o : Owner) (form : Form) → IsFormOf f o form → form_line form ≡ owned_line (owned_at f o)
 owner_line f o form h = is_line_of f.counts.n_var (λ at. expression_given (known_by (definitions_before f o) at) (expression_at f o) at) form h.within h.values
 
-pub owner_count : (f : File) (o : Owner) (form : Form) → IsWithin f.counts.n_var form → AreAscending 0 (form_terms form) → HasLineOf f.counts.n_var (λ at. expression_given (known_by (definitions_before f o) at) (expression_at f o) at) form → coefficient_count f.counts.n_var (owned_line (owned_at f o)) ≡ length (form_terms form)
+pub owner_count : (f : File) (o : Owner) (form : Form) → IsWithin f.counts.n_var form → AreAscending 0 (form_terms form)
+    → HasLineOf f.counts.n_var (λ at. expression_given (known_by (definitions_before f o) at) (expression_at f o) at) form
+    → coefficient_count f.counts.n_var (owned_line (owned_at f o)) ≡ length (form_terms form)
 owner_count f o form within ascending values =
     ap (coefficient_count f.counts.n_var) (sym (is_line_of f.counts.n_var (λ at. expression_given (known_by (definitions_before f o) at) (expression_at f o) at) form within values))
     ∙ form_count_is f.counts.n_var form within ascending

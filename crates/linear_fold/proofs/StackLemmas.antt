@@ -1,10 +1,12 @@
 -- Stacks of parts, of which some are closed or taken.
-use Rattle.std.proofs.Common.{◌≡◌, ℕ, zero, suc, ◌+◌, ◌-◌, ◌<◌, ◌≤◌, ◌∙◌, sym, ap, refl, subst, arith, Option, None, Some, Result, Ok, Err, OnOk, List, [], ◌∷◌, ◌++◌, length, reverse, take, drop, get_or, set, subst₂}
+use Rattle.std.proofs.Common.{◌≡◌, ℕ, zero, suc, ◌+◌, ◌-◌, ◌<◌, ◌≤◌, ◌∙◌, sym, ap, refl, subst, arith, Option, None}
+use Rattle.std.proofs.Common.{Some, Result, Ok, Err, OnOk, List, [], ◌∷◌, ◌++◌, length, reverse, take, drop, get_or}
+use Rattle.std.proofs.Common.{set, subst₂}
 use Rattle.std.proofs.lemmas.List.{length-reverse, length-take-le, reverse-append, take-take}
-use Rattle.nl_meaning.specs.declared.Fault.{Fault}
-use Rattle.nl_meaning.specs.Faults.{tree_fault}
-use Rattle.nl_meaning.specs.Trees.{Known, Tree, tree_size}
-use Rattle.program_meaning.specs.Lines.{Point}
+use Rattle.nl_model.specs.declared.fault.Fault.{Fault}
+use Rattle.nl_model.specs.Faults.{tree_fault}
+use Rattle.nl_model.specs.Trees.{Known, Tree, tree_size}
+use Rattle.linear_program.specs.Lines.{Point}
 use Rattle.linear_fold.specs.declared.parts.PartialForm.{PartialForm}
 use Rattle.linear_fold.specs.declared.parts.PartialForm.TheVariants.{Linear, Opposite, Broken}
 use Rattle.linear_fold.specs.InsideFolds.{ArePartsFolded, ArePartsWithin, IsLined, IsPartFolded, IsPartWithin}
@@ -101,7 +103,8 @@ parts_set (r ∷ ps) zero p q h e s = (subst (λ x. IsSamePart x q) e s, same_pa
 parts_set (r ∷ ps) (suc k) p q h e s = (same_part r, parts_set ps k p q (omega arith) e s)
 
 -- one of a stack's parts is closed
-pub one_closed : (stack new : List PartialForm) (k : ℕ) (p q : PartialForm) → k < length stack → p ≡ get_or stack k p → new ≡ set stack k q → IsSamePart p q → AreSameParts (reverse stack) (reverse new)
+pub one_closed : (stack new : List PartialForm) (k : ℕ) (p q : PartialForm) → k < length stack → p ≡ get_or stack k p
+    → new ≡ set stack k q → IsSamePart p q → AreSameParts (reverse stack) (reverse new)
 one_closed stack new k p q h e is s = parts_reverse stack new (subst (AreSameParts stack) (sym is) (parts_set stack k p q h e s))
 
 within_append : (n : ℕ) (ps qs : List PartialForm) → ArePartsWithin n (ps ++ qs) → ArePartsWithin n ps × ArePartsWithin n qs

@@ -1,22 +1,25 @@
 -- Sums of parts: the order of two, their signs, and running sums over the end of a stack.
-use Rattle.std.proofs.Common.{◌≡◌, ◌≢◌, ℕ, zero, suc, ◌+◌, ◌*◌, ◌-◌, ◌<◌, ◌≤◌, ◌/◌, ◌==◌, ◌∙◌, sym, ap, ap₂, refl, subst, subst₂, arith, Bool, get_or, true, false, if◌then◌else◌, ◌&&◌, ℤ, pos, negsuc, ◌+ℤ◌, ◌*ℤ◌, neg_ℤ, unsigned_abs, Result, Ok, Err, Some, List, [], ◌∷◌, ◌++◌, map, length, reverse, take, length-append, ⊎_elim}
+use Rattle.std.proofs.Common.{◌≡◌, ◌≢◌, ℕ, zero, suc, ◌+◌, ◌*◌, ◌-◌, ◌<◌, ◌≤◌, ◌/◌, ◌==◌, ◌∙◌, sym, ap, ap₂, refl}
+use Rattle.std.proofs.Common.{subst, subst₂, arith, Bool, get_or, true, false, if◌then◌else◌, ◌&&◌, ℤ, pos, negsuc}
+use Rattle.std.proofs.Common.{◌+ℤ◌, ◌*ℤ◌, neg_ℤ, unsigned_abs, Result, Ok, Err, Some, List, [], ◌∷◌, ◌++◌, map, length}
+use Rattle.std.proofs.Common.{reverse, take, length-append, ⊎_elim}
 use Rattle.std.proofs.lemmas.List.{reverse-append, take-take, take_all}
 use Rattle.std.proofs.Math.Bool.{and-true}
 use Rattle.std.proofs.Math.Seq.{take-append_seam}
 use Rattle.std.proofs.Math.Nat.{mul-le-mul_left}
 use lib.IntN.{+ℤ_comm, neg_ℤ-+ℤ}
 use Rattle.std.proofs.lemmas.Bool.{and_from, cases_lt}
-use Rattle.texts.specs.declared.stop.Stop.{Stop}
-use Rattle.texts.specs.declared.stop.Stop.TheVariants.{Fault as Stopped, Memory}
+use Rattle.text_base.specs.declared.stop.Stop.{Stop}
+use Rattle.text_base.specs.declared.stop.Stop.TheVariants.{Fault as Stopped, Memory}
 use Rattle.exact_numbers.proofs.Coprime.{same_lcm}
 use Rattle.exact_numbers.proofs.Zeros.{fits_zero}
-use Rattle.fractions.specs.Fits.{fits, is_small, least_multiple, parts_fit, sum_fits, sum_over_multiple}
-use Rattle.fractions.specs.LowestLemmas.{lcm_is}
-use Rattle.fractions.specs.Rational.{ℚ, whole, neg_ℚ, one_ℚ, zero_ℚ, ◌+ℚ◌, ◌*ℚ◌}
-use Rattle.fractions.proofs.Arithmetic.{*ℚ-neg, +ℚ_comm, +ℚ_zero, neg-*ℚ, neg-+ℚ, neg-neg, neg_zero, zero-*ℚ, zero-+ℚ, neg_size, neg_parts}
-use Rattle.fractions.proofs.Signed.{neg-*ℤ}
-use Rattle.program_meaning.specs.Lines.{Line, constant_line, one_if, all_below, is_constant, is_zero, products_fit, line_neg, line_scaled, line_sum, running_line, running_sums_fit, sums_fit}
-use Rattle.nl_meaning.specs.Faults.{too_wide_unless}
+use Rattle.exact_numbers.specs.Fits.{fits, is_small, least_multiple, parts_fit, sum_fits, sum_over_multiple}
+use Rattle.exact_numbers.specs.LowestLemmas.{lcm_is}
+use Rattle.exact_numbers.specs.Rational.{ℚ, whole, neg_ℚ, one_ℚ, zero_ℚ, ◌+ℚ◌, ◌*ℚ◌}
+use Rattle.exact_numbers.proofs.RationalLaws.{*ℚ-neg, +ℚ_comm, +ℚ_zero, neg-*ℚ, neg-+ℚ, neg-neg, neg_zero, zero-*ℚ, zero-+ℚ, neg_size, neg_parts}
+use Rattle.exact_numbers.proofs.IntegerLaws.{neg-*ℤ}
+use Rattle.linear_program.specs.Lines.{Line, constant_line, one_if, all_below, is_constant, is_zero, products_fit, line_neg, line_scaled, line_sum, running_line, running_sums_fit, sums_fit}
+use Rattle.nl_model.specs.Faults.{too_wide_unless}
 use Rattle.code_tables.specs.declared.class.OpClass.TheVariants.{Difference, Negation, Product, List as SumOfAll}
 use Rattle.linear_program.specs.declared.too_wide.Wide.{Wide}
 use Rattle.linear_program.specs.Coefs.{AddsAt}
@@ -28,7 +31,7 @@ use Rattle.linear_fold.specs.declared.parts.PartialForm.{PartialForm}
 use Rattle.linear_fold.specs.declared.parts.PartialForm.TheVariants.{Number}
 use Rattle.exact_numbers.specs.declared.frac.Frac.{Frac}
 use Rattle.exact_numbers.specs.Values.{frac_value}
-use Rattle.fractions.proofs.Values.{same_parts}
+use Rattle.exact_numbers.proofs.Values.{same_parts}
 use Rattle.linear_fold.specs.InsideOperates.{AreOperands, ComesTo, IsLeft, IsOperand, IsSameSum, IsSound, IsUnit, Operates, SumsTo, multiple_line, part_line}
 use Rattle.linear_fold.proofs.Operators.{FitsLine, adds_multiple, stops_multiple, added, fault_first, first_of_all, line_fits, neg_fits, number_constant, part_fits, scaled_by_minus, scaled_by_one}
 
@@ -88,7 +91,8 @@ same_swapped n a b =
 -- the opposite of a with b: the opposite of a less b
 pub turned_fit : (n : ℕ) (a b : Line) → sums_fit n a (line_neg b) ≡ sums_fit n (line_neg a) b
 turned_fit n a b =
-    ap₂ ◌&&◌ (sym (sum_fits_turned a.constant b.constant)) (all_below_same (λ j. sum_fits (a.coef j) (neg_ℚ (b.coef j))) (λ j. sum_fits (neg_ℚ (a.coef j)) (b.coef j)) n (λ j. sym (sum_fits_turned (a.coef j) (b.coef j))))
+    ap₂ ◌&&◌ (sym (sum_fits_turned a.constant b.constant)) (all_below_same (λ j. sum_fits (a.coef j) (neg_ℚ (b.coef j)))
+    (λ j. sum_fits (neg_ℚ (a.coef j)) (b.coef j)) n (λ j. sym (sum_fits_turned (a.coef j) (b.coef j))))
 
 pub turned_line : (a b : Line) → line_neg (line_sum a (line_neg b)) ≡ line_sum (line_neg a) b
 turned_line a b = same_line _ _ (one a.constant b.constant) (λ j. one (a.coef j) (b.coef j))
@@ -96,7 +100,9 @@ turned_line a b = same_line _ _ (one a.constant b.constant) (λ j. one (a.coef j
     one : (x y : ℚ) → neg_ℚ (x +ℚ neg_ℚ y) ≡ neg_ℚ x +ℚ y
     one x y = neg-+ℚ x (neg_ℚ y) ∙ ap (λ z. neg_ℚ x +ℚ z) (neg-neg y)
 
-pub turned_sum : (n : ℕ) (a b new : Line) (r : Result (Unit {0}) (Stop Wide)) → SumsTo (sums_fit n a (line_neg b)) (line_sum a (line_neg b)) new r → SumsTo (sums_fit n (line_neg a) b) (line_sum (line_neg a) b) (line_neg new) r
+pub turned_sum : (n : ℕ) (a b new : Line) (r : Result (Unit {0}) (Stop Wide))
+    → SumsTo (sums_fit n a (line_neg b)) (line_sum a (line_neg b)) new r
+    → SumsTo (sums_fit n (line_neg a) b) (line_sum (line_neg a) b) (line_neg new) r
 turned_sum n a b new (Ok u) h = (sym (turned_fit n a b) ∙ h.0, ap line_neg h.1 ∙ turned_line a b)
 turned_sum n a b new (Err (Stopped w)) h = sym (turned_fit n a b) ∙ h
 turned_sum n a b new (Err Memory) h = tt
@@ -135,9 +141,14 @@ fits_turned_back a b k m e h =
 pub scaled_opposite : (k m : ℚ) (b : Line) → m ≡ neg_ℚ k → line_scaled m b ≡ line_scaled k (line_neg b)
 scaled_opposite k m b e = same_line _ _ (times_opposite k m b.constant e) (λ j. times_opposite k m (b.coef j) e)
 
-pub opposite_comes : (n : ℕ) (k m : ℚ) (a : Line) (o : Outcome) → m ≡ neg_ℚ k → ComesTo n (products_fit n m a) (line_scaled m a) o → ComesTo n (products_fit n k (line_neg a)) (line_scaled k (line_neg a)) o
+pub opposite_comes : (n : ℕ) (k m : ℚ) (a : Line) (o : Outcome) → m ≡ neg_ℚ k
+    → ComesTo n (products_fit n m a) (line_scaled m a) o → ComesTo n (products_fit n k (line_neg a))
+    (line_scaled k (line_neg a)) o
 opposite_comes n k m a o e h =
-    let fit : products_fit n m a ≡ products_fit n k (line_neg a) = ap₂ (λ x b. fits x && b) (times_opposite k m a.constant e) (all_below_same (λ j. fits (m *ℚ a.coef j)) (λ j. fits (k *ℚ neg_ℚ (a.coef j))) n (λ j. ap fits (times_opposite k m (a.coef j) e))) in
+    let fit : products_fit n m a ≡ products_fit n k (line_neg a) =
+    ap₂ (λ x b. fits x && b) (times_opposite k m a.constant e)
+    (all_below_same (λ j. fits (m *ℚ a.coef j)) (λ j. fits (k *ℚ neg_ℚ (a.coef j))) n
+    (λ j. ap fits (times_opposite k m (a.coef j) e))) in
     subst₂ (λ (b : Bool) (l : Line). ComesTo n b l o) fit (scaled_opposite k m a e) h
 
 -- 0 times a line
@@ -189,15 +200,20 @@ neg_multiple j x y e = same_line _ _ (sym neg_zero) (λ i. ap (λ z. zero_ℚ +�
     one z = zero-+ℚ (neg_ℚ x *ℚ z) ∙ neg-*ℚ x z ∙ ap neg_ℚ (sym (zero-+ℚ (x *ℚ z)))
 
 -- ---- k times a multiple
-pub multiple_added : (a : Line) (k x : ℚ) (j : ℕ) → FitsLine a → (new : Line) (m : ℚ) (r : Result (Unit {0}) (Stop Wide)) → fits (k *ℚ x) ≡ true → m ≡ k *ℚ x → new.constant ≡ a.constant → AddsAt a.coef j m new.coef r → AddsScaled a k (multiple_line j x) new r
+pub multiple_added : (a : Line) (k x : ℚ) (j : ℕ) → FitsLine a
+    → (new : Line) (m : ℚ) (r : Result (Unit {0}) (Stop Wide)) → fits (k *ℚ x) ≡ true → m ≡ k *ℚ x
+    → new.constant ≡ a.constant → AddsAt a.coef j m new.coef r → AddsScaled a k (multiple_line j x) new r
 multiple_added a k x j small new m (Ok u) fit is c h = adds_multiple a k x j small new m fit is c h
 multiple_added a k x j small new m (Err s) fit is c h = stops_multiple a k x j small new new m s is h
 
 -- ---- one part onto another
-pub onto_form : (n : ℕ) (a b new : Line) (k : ℚ) (r : Result (Unit {0}) (Stop Wide)) → k ≡ one_ℚ → FitsLine b → IsZeroFrom n a → IsZeroFrom n b → AddsScaled a k b new r → SumsTo (sums_fit n a b) (line_sum a b) new r
+pub onto_form : (n : ℕ) (a b new : Line) (k : ℚ) (r : Result (Unit {0}) (Stop Wide)) → k ≡ one_ℚ → FitsLine b
+    → IsZeroFrom n a → IsZeroFrom n b → AddsScaled a k b new r → SumsTo (sums_fit n a b) (line_sum a b) new r
 onto_form n a b new k r one fb za zb h = added a b k b (scaled_by_one k b one) fb n za zb new r h
 
-pub onto_opposite : (n : ℕ) (a b new : Line) (k x : ℚ) (r : Result (Unit {0}) (Stop Wide)) → k ≡ neg_ℚ x → x ≡ one_ℚ → FitsLine b → IsZeroFrom n (line_neg a) → IsZeroFrom n b → AddsScaled a k b new r → SumsTo (sums_fit n (line_neg a) b) (line_sum (line_neg a) b) (line_neg new) r
+pub onto_opposite : (n : ℕ) (a b new : Line) (k x : ℚ) (r : Result (Unit {0}) (Stop Wide)) → k ≡ neg_ℚ x → x ≡ one_ℚ
+    → FitsLine b → IsZeroFrom n (line_neg a) → IsZeroFrom n b → AddsScaled a k b new r
+    → SumsTo (sums_fit n (line_neg a) b) (line_sum (line_neg a) b) (line_neg new) r
 onto_opposite n a b new k x r e one fb za zb h = turned_sum n a b new r (added a b k (line_neg b) (scaled_by_minus k x b e one) (neg_fits b fb) n (neg_zero_from n a za) zb new r h)
 
 pub same_operand : (n : ℕ) (p q : PartialForm) → IsOperand n p → part_line q ≡ part_line p → IsSound n q → IsOperand n q
@@ -277,17 +293,22 @@ module _ (n : ℕ) (total first : Line) (x : PartialForm) (left rest all : List 
         within = o.within.1;
       }
 
-  pub adding_stop : (new other : Line) (stop : Stop Wide) → SumsTo (sums_fit n total (part_line x)) (line_sum total (part_line x)) new (Err stop) → SumsTo (running_sums_fit n first (map part_line all)) (running_line first (map part_line all)) other (Err stop)
+  pub adding_stop : (new other : Line) (stop : Stop Wide) → SumsTo (sums_fit n total (part_line x))
+      (line_sum total (part_line x)) new (Err stop) → SumsTo (running_sums_fit n first (map part_line all))
+      (running_line first (map part_line all)) other (Err stop)
   adding_stop new other (Stopped w) h = sym opened.fit ∙ ap (λ b. b && running_sums_fit n (line_sum total (part_line x)) (map part_line rest)) h
   adding_stop new other Memory h = tt
 
-pub adding_end : (n : ℕ) (total first : Line) (left all : List PartialForm) → left ≡ [] → Adding n total left all first → (running_sums_fit n first (map part_line all) ≡ true) × (total ≡ running_line first (map part_line all))
+pub adding_end : (n : ℕ) (total first : Line) (left all : List PartialForm) → left ≡ [] → Adding n total left all first
+    → (running_sums_fit n first (map part_line all) ≡ true) × (total ≡ running_line first (map part_line all))
 adding_end n total first left all is a =
     let o : Adding n total [] all first = subst (λ l. Adding n total l all first) is a in
     (sym o.fit, o.line)
 
 -- ---- outcomes
-pub sum_of_all_comes : (n : ℕ) (x : PartialForm) (rest ps : List PartialForm) (o : Outcome) → ps ≡ x ∷ rest → ComesTo n (running_sums_fit n (part_line x) (map part_line rest)) (running_line (part_line x) (map part_line rest)) o → Operates n SumOfAll (map part_line ps) o
+pub sum_of_all_comes : (n : ℕ) (x : PartialForm) (rest ps : List PartialForm) (o : Outcome) → ps ≡ x ∷ rest
+    → ComesTo n (running_sums_fit n (part_line x) (map part_line rest)) (running_line (part_line x) (map part_line rest))
+    o → Operates n SumOfAll (map part_line ps) o
 sum_of_all_comes n x rest ps (Made g) e h =
     subst (λ qs. Operates n SumOfAll (map part_line qs) (Made g)) (sym e) (ap too_wide_unless h.0, h.1, h.2)
 sum_of_all_comes n x rest ps (Refused r) e h =
@@ -298,7 +319,9 @@ difference_comes n a b (Made f) h = (ap too_wide_unless h.0, h.1, h.2)
 difference_comes n a b (Refused r) h = ap too_wide_unless h.0 ∙ ap Some (sym h.1)
 
 -- the opposite of the last of a stack
-pub negation_comes : (n : ℕ) (old new : List PartialForm) (x p : PartialForm) → old ≡ new ++ x ∷ [] → part_line p ≡ line_neg (part_line x) → ((m : ℕ) → IsSound m x → IsSound m p) → AreOperands n (take 1 (reverse old)) → Operates n Negation (map part_line (take 1 (reverse old))) (Made p)
+pub negation_comes : (n : ℕ) (old new : List PartialForm) (x p : PartialForm) → old ≡ new ++ x ∷ []
+    → part_line p ≡ line_neg (part_line x) → ((m : ℕ) → IsSound m x → IsSound m p) → AreOperands n (take 1 (reverse old))
+    → Operates n Negation (map part_line (take 1 (reverse old))) (Made p)
 negation_comes n old new x p e line sound w =
     let one = next_taken 1 0 old new x refl e in
     subst (λ ps. Operates n Negation (map part_line ps) (Made p)) (sym one) (refl, line, sound n (subst (AreOperands n) one w).0.sound)
@@ -308,7 +331,9 @@ operand_opposite n p q w line sound =
     record { sound = sound n w.sound; zero_from = λ j g. ap (λ l. l.coef j) line ∙ ap neg_ℚ (w.zero_from j g) ∙ neg_zero }
 
 -- a difference is a sum with the opposite
-pub difference_of : (n : ℕ) (ps : List PartialForm) (a b q : PartialForm) (o : Outcome) → ps ≡ a ∷ b ∷ [] → part_line q ≡ line_neg (part_line b) → ComesTo n (sums_fit n (part_line a) (part_line q)) (line_sum (part_line a) (part_line q)) o → Operates n Difference (map part_line ps) o
+pub difference_of : (n : ℕ) (ps : List PartialForm) (a b q : PartialForm) (o : Outcome) → ps ≡ a ∷ b ∷ []
+    → part_line q ≡ line_neg (part_line b) → ComesTo n (sums_fit n (part_line a) (part_line q))
+    (line_sum (part_line a) (part_line q)) o → Operates n Difference (map part_line ps) o
 difference_of n ps a b q o e line h =
     subst (λ rs. Operates n Difference (map part_line rs) o) (sym e)
     (difference_comes n (part_line a) (part_line b) o (subst (λ l. ComesTo n (sums_fit n (part_line a) l) (line_sum (part_line a) l) o) line h))
@@ -350,7 +375,9 @@ module _ (ps : List PartialForm) (p : PartialForm) (k : Frac) (some : 0 < length
   unit_minus t = unit_first true (minus_value (frac_value k) t whole_number)
 
 -- a product of two operands, the first of which is 1 or -1
-pub unit_product : (n : ℕ) (ps : List PartialForm) (minus : Bool) (a b r : PartialForm) → ps ≡ a ∷ b ∷ [] → IsUnit minus ps → part_line r ≡ (if minus then line_neg (part_line b) else part_line b) → (IsSound n b → IsSound n r) → AreOperands n ps → Operates n Product (map part_line ps) (Made r)
+pub unit_product : (n : ℕ) (ps : List PartialForm) (minus : Bool) (a b r : PartialForm) → ps ≡ a ∷ b ∷ []
+    → IsUnit minus ps → part_line r ≡ (if minus then line_neg (part_line b) else part_line b)
+    → (IsSound n b → IsSound n r) → AreOperands n ps → Operates n Product (map part_line ps) (Made r)
 unit_product n ps minus a b r e unit line sound within =
     let k : ℚ = if minus then neg_ℚ one_ℚ else one_ℚ in
     let scaled : line_scaled k (part_line b) ≡ part_line r = unit_times minus (part_line b) ∙ sym line in

@@ -2,16 +2,16 @@
 use Rattle.std.specs.Prelude.{ℕ, ◌+◌, ◌-◌, ◌*◌, nat_lt, length, Option, option_map, if◌then◌else◌}
 use Rattle.std.specs.List.{sum_by}
 use Rattle.std.specs.Option.{option_map_or}
-use Rattle.nl_meaning.specs.declared.Reason.{Reason}
-use Rattle.nl_meaning.specs.declared.Reason.TheVariants.{Nonlinear as IsNonlinear, DivideByZero as DividesByZero, TooWide as IsTooWide, RefusedPower as HasRefusedPower}
-use Rattle.nl_meaning.specs.Trees.{tree_size}
+use Rattle.nl_model.specs.declared.fault.Reason.{Reason}
+use Rattle.nl_model.specs.declared.fault.Reason.TheVariants.{Nonlinear as IsNonlinear, DivideByZero as DividesByZero, TooWide as IsTooWide, RefusedPower as HasRefusedPower}
+use Rattle.nl_model.specs.Trees.{tree_size}
 use Rattle.nl_model.specs.declared.at.At.{At}
 use Rattle.nl_model.specs.declared.at.At.TheVariants.{Node, Term, Head}
 use Rattle.nl_model.specs.declared.at.Owner.{Owner}
 use Rattle.nl_model.specs.File.{File}
 use Rattle.nl_model.specs.FilePlaces.{HasPlace, tree_at}
-use Rattle.file_meaning.specs.Expressions.{tree_or_zero}
-use Rattle.file_meaning.specs.FoldFaults.{FoldFault as FileFault, no_such_objective, at_place, fold_too_large, fold_fault}
+use Rattle.nl_model.specs.Expressions.{tree_or_zero}
+use Rattle.nl_model.specs.FoldFaults.{FoldFault as FileFault, no_such_objective, at_place, fold_too_large, fold_fault}
 use Rattle.linear_fold.specs.declared.fold_fault.FoldFault.{FoldFault}
 use Rattle.linear_fold.specs.declared.fold_fault.FoldFault.TheVariants.{Nonlinear, DivideByZero, TooWide, RefusedPower, FoldTooLarge, NoSuchObjective}
 

@@ -1,7 +1,7 @@
 -- What folding a file with one of its objectives answers.
 use Rattle.std.specs.Prelude.{◌≡◌, ◌+◌, ◌≤◌, ℕ, Some, None, false}
-use Rattle.file_meaning.specs.FoldFaults.{fold_fault, has_objective}
-use Rattle.file_meaning.specs.LinearFile.{linear_of, HasLines}
+use Rattle.nl_model.specs.FoldFaults.{fold_fault, has_objective}
+use Rattle.nl_model.specs.LinearFile.{linear_of, HasLines}
 use Rattle.linear_program.specs.Programs.{LinearValue, linear_value}
 use Rattle.nl_model.specs.File.{File}
 use Rattle.nl_model.specs.Kinds.{kinds_in}

@@ -1,13 +1,13 @@
 -- What folding a tree comes to.
 use Rattle.std.specs.Prelude.{◌≡◌, ◌≢◌, ℕ, ◌+◌, ◌-◌, ◌<◌, ◌≤◌, List, [], ◌∷◌, length, get_or, Option, Some, None, Result, Ok, Err}
-use Rattle.texts.specs.declared.stop.Stop.{Stop}
-use Rattle.texts.specs.declared.stop.Stop.TheVariants.{Fault as Stopped, Memory}
+use Rattle.text_base.specs.declared.stop.Stop.{Stop}
+use Rattle.text_base.specs.declared.stop.Stop.TheVariants.{Fault as Stopped, Memory}
 use Rattle.code_tables.specs.Opcodes.{class_of}
-use Rattle.fractions.specs.Rational.{ℚ}
-use Rattle.nl_meaning.specs.declared.Fault.{Fault}
-use Rattle.nl_meaning.specs.Faults.{expression_fault, line_with_terms, terms_fault, tree_fault, trees_fault}
-use Rattle.program_meaning.specs.Lines.{Line, line_value, Point}
-use Rattle.nl_meaning.specs.Trees.{Known, Tree, number, variable, defined, operator, Trees, none, more, LinearTerm, Expression, Takes, rule_of, expression_given, tree_size, tree_given}
+use Rattle.exact_numbers.specs.Rational.{ℚ}
+use Rattle.nl_model.specs.declared.fault.Fault.{Fault}
+use Rattle.nl_model.specs.Faults.{expression_fault, line_with_terms, terms_fault, tree_fault, trees_fault}
+use Rattle.linear_program.specs.Lines.{Line, line_value, Point}
+use Rattle.nl_model.specs.Trees.{Known, Tree, number, variable, defined, operator, Trees, none, more, LinearTerm, Expression, Takes, rule_of, expression_given, tree_size, tree_given}
 use Rattle.nl_model.specs.declared.node.Node.{Node}
 use Rattle.nl_model.specs.declared.node.Node.TheVariants.{Num, Var, Defined, Op}
 use Rattle.linear_fold.specs.declared.entries.Entry.{Entry}

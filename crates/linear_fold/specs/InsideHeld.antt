@@ -2,10 +2,10 @@
 use Rattle.std.specs.Prelude.{◌≡◌, ℕ, List}
 use Rattle.exact_numbers.specs.declared.frac.Frac.{Frac}
 use Rattle.exact_numbers.specs.Values.{frac_value}
-use Rattle.program_meaning.specs.Lines.{Line, Point, constant_line}
-use Rattle.nl_meaning.specs.Trees.{Known, Tree}
+use Rattle.linear_program.specs.Lines.{Line, Point, constant_line}
+use Rattle.nl_model.specs.Trees.{Known, Tree}
 use Rattle.nl_model.specs.Rules.{AreTermsBelow}
-use Rattle.file_meaning.specs.Expressions.{linear_terms}
+use Rattle.nl_model.specs.Expressions.{linear_terms}
 use Rattle.linear_program.specs.declared.form.Form.{Form}
 use Rattle.linear_program.specs.declared.form.Kept.TheVariants.{Closed}
 use Rattle.linear_program.specs.Decimals.{AreDecimals, DecimalTerm, fraction_terms}

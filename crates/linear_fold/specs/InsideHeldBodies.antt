@@ -3,7 +3,7 @@ use Rattle.std.specs.Prelude.{◌≡◌, ℕ, Bool, true, false, List, [], ◌�
 use Rattle.nl_model.specs.declared.at.Owner.TheVariants.{Con}
 use Rattle.nl_model.specs.File.{File}
 use Rattle.nl_model.specs.FilePlaces.{terms_at, tree_at}
-use Rattle.file_meaning.specs.Expressions.{tree_or_zero}
+use Rattle.nl_model.specs.Expressions.{tree_or_zero}
 use Rattle.linear_program.specs.declared.form.Form.{Form}
 use Rattle.linear_program.specs.Decimals.{AreDecimals, DecimalTerm}
 use Rattle.linear_program.specs.Forms.{kept_constant}

@@ -4,11 +4,11 @@ use Rattle.std.specs.Option.{option_map_or}
 use Rattle.exact_numbers.specs.declared.dec.Dec.{Dec}
 use Rattle.exact_numbers.specs.declared.frac.Frac.{Frac}
 use Rattle.exact_numbers.specs.Values.{dec_value, frac_value}
-use Rattle.fractions.specs.Fits.{fits}
-use Rattle.fractions.specs.Rational.{ℚ, zero_ℚ, inverse_of}
-use Rattle.program_meaning.specs.Lines.{Line, Point, constant_line, running_line, running_sums_fit, sums_fit, line_sum}
-use Rattle.nl_meaning.specs.Faults.{trees_fault, trees_lines}
-use Rattle.nl_meaning.specs.Trees.{Known, Tree, Trees, tree_size}
+use Rattle.exact_numbers.specs.Fits.{fits}
+use Rattle.exact_numbers.specs.Rational.{ℚ, zero_ℚ, inverse_of}
+use Rattle.linear_program.specs.Lines.{Line, Point, constant_line, running_line, running_sums_fit, sums_fit, line_sum}
+use Rattle.nl_model.specs.Faults.{trees_fault, trees_lines}
+use Rattle.nl_model.specs.Trees.{Known, Tree, Trees, tree_size}
 use Rattle.nl_model.specs.declared.node.Node.{Node}
 use Rattle.nl_model.specs.declared.node.Node.TheVariants.{Num, Var, Op}
 use Rattle.nl_model.specs.Nodes.{IsTreeFormed, trees_of}

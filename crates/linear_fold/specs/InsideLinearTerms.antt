@@ -1,7 +1,7 @@
 -- Lists of linear terms: which ascend, and which add nothing.
 use Rattle.std.specs.Prelude.{◌≡◌, ◌≢◌, ℕ, suc, ◌≤◌, List, [], ◌∷◌}
-use Rattle.fractions.specs.Rational.{zero_ℚ}
-use Rattle.nl_meaning.specs.Trees.{LinearTerm}
+use Rattle.exact_numbers.specs.Rational.{zero_ℚ}
+use Rattle.nl_model.specs.Trees.{LinearTerm}
 
 -- ascending by variable, the first being at least n, and no factor is 0
 abbrev pub AreStrictlyAscending : ℕ → List LinearTerm → Type 0

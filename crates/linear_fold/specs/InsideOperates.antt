@@ -1,16 +1,16 @@
 -- The parts of a tree, and what an operator makes of them.
 use Rattle.std.specs.Prelude.{◌≡◌, ℕ, ◌+◌, ◌<◌, ◌≤◌, IfSome, length, take, Bool, true, false, List, [], ◌∷◌, map, Option, Some, None, Result, Ok, Err, if◌then◌else◌}
-use Rattle.texts.specs.declared.stop.Stop.{Stop}
-use Rattle.texts.specs.declared.stop.Stop.TheVariants.{Fault, Memory}
+use Rattle.text_base.specs.declared.stop.Stop.{Stop}
+use Rattle.text_base.specs.declared.stop.Stop.TheVariants.{Fault, Memory}
 use Rattle.code_tables.specs.declared.class.OpClass.{OpClass}
 use Rattle.code_tables.specs.declared.class.OpClass.TheVariants.{Least, Greatest}
-use Rattle.fractions.specs.Functions.{lesser_of, greater_of}
-use Rattle.fractions.specs.Rational.{ℚ, neg_ℚ, one_ℚ, zero_ℚ}
-use Rattle.nl_meaning.specs.declared.Fault.{Fault as NodeFault}
-use Rattle.nl_meaning.specs.declared.Reason.TheVariants.{TooWide}
-use Rattle.program_meaning.specs.Lines.{constant_line, line_neg, line_sum, line_with, Line, are_constant, constants_of, sums_fit}
-use Rattle.nl_meaning.specs.Faults.{operator_fault, operator_line}
-use Rattle.nl_meaning.specs.Trees.{applied, rule_of}
+use Rattle.exact_numbers.specs.Functions.{lesser_of, greater_of}
+use Rattle.exact_numbers.specs.Rational.{ℚ, neg_ℚ, one_ℚ, zero_ℚ}
+use Rattle.nl_model.specs.declared.fault.Fault.{Fault as NodeFault}
+use Rattle.nl_model.specs.declared.fault.Reason.TheVariants.{TooWide}
+use Rattle.linear_program.specs.Lines.{constant_line, line_neg, line_sum, line_with, Line, are_constant, constants_of, sums_fit}
+use Rattle.nl_model.specs.Faults.{operator_fault, operator_line}
+use Rattle.nl_model.specs.Trees.{applied, rule_of}
 use Rattle.exact_numbers.specs.declared.frac.Frac.{Frac}
 use Rattle.exact_numbers.specs.Values.{frac_value}
 use Rattle.linear_program.specs.declared.form.Form.{Form}

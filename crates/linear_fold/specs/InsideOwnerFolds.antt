@@ -1,10 +1,10 @@
 -- The owners of a file, folded one after the other.
 use Rattle.std.specs.Prelude.{◌≡◌, ℕ, suc, ◌+◌, ◌-◌, ◌<◌, ◌≤◌, true, false, List, [], ◌∷◌, ◌++◌, length, map, take, get_or, sum_by, Option, Some, None, option_map, Result, Ok, Err}
 use Rattle.std.specs.Option.{option_map_or}
-use Rattle.texts.specs.declared.stop.Stop.{Stop}
-use Rattle.texts.specs.declared.stop.Stop.TheVariants.{Fault, Memory}
-use Rattle.program_meaning.specs.Lines.{Point}
-use Rattle.nl_meaning.specs.Trees.{Known, Tree, Expression, expression_given, known_values, tree_size}
+use Rattle.text_base.specs.declared.stop.Stop.{Stop}
+use Rattle.text_base.specs.declared.stop.Stop.TheVariants.{Fault, Memory}
+use Rattle.linear_program.specs.Lines.{Point}
+use Rattle.nl_model.specs.Trees.{Known, Tree, Expression, expression_given, known_values, tree_size}
 use Rattle.nl_model.specs.declared.at.Owner.{Owner}
 use Rattle.nl_model.specs.declared.at.Owner.TheVariants.{Def, Con, Obj}
 use Rattle.nl_model.specs.File.{Term, File}
@@ -12,8 +12,8 @@ use Rattle.nl_model.specs.declared.definition.Def.{Def as Definition}
 use Rattle.nl_model.specs.FilePlaces.{tree_at, terms_at, node_count}
 use Rattle.nl_model.specs.HeaderRules.{defined_count}
 use Rattle.nl_model.specs.Rules.{is_defined}
-use Rattle.file_meaning.specs.Expressions.{definition_of, linear_terms, tree_or_zero}
-use Rattle.file_meaning.specs.FoldFaults.{Owned, most_coefficients, owners_fault}
+use Rattle.nl_model.specs.Expressions.{definition_of, linear_terms, tree_or_zero}
+use Rattle.nl_model.specs.FoldFaults.{Owned, most_coefficients, owners_fault}
 use Rattle.linear_fold.specs.declared.fold_fault.FoldFault.{FoldFault}
 use Rattle.linear_program.specs.declared.form.Form.{Form}
 use Rattle.linear_fold.specs.declared.owners.Folder.{Folder}

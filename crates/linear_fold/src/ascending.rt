@@ -1,10 +1,10 @@
 // Terms that ascend by variable: as they stand, they are the coefficients of a form.
 ghost use Rattle.std.specs.Prelude.{◌≡◌, ◌+◌, ◌^◌, ◌≤◌, ◌↔◌, [], length, All, IfOk, IfSome, IsTrue, None, true};
 ghost use Rattle.std.specs.List.Sorted.{IsPermutation};
-ghost use Rattle.fractions.specs.Fits.{fits};
+ghost use Rattle.exact_numbers.specs.Fits.{fits};
 ghost use Rattle.exact_numbers.specs.Values.{dec_value, frac_value};
-ghost use Rattle.program_meaning.specs.Lines.{constant_line};
-ghost use Rattle.file_meaning.specs.Expressions.{linear_terms};
+ghost use Rattle.linear_program.specs.Lines.{constant_line};
+ghost use Rattle.nl_model.specs.Expressions.{linear_terms};
 ghost use Rattle.linear_fold.specs.InsideHeld.{ComesToHeld};
 ghost use Rattle.linear_fold.specs.InsideLinearTerms.{AreStrictlyAscending, AreZeroTerms};
 ghost use Rattle.linear_fold.specs.InsideFolds.{ComesToTerms};
@@ -13,9 +13,9 @@ ghost use Rattle.linear_program.specs.Forms.{form_line, form_terms};
 use crate::entries::{Entry, Held};
 use exact_numbers::{Dec, Frac};
 use linear_program::{Form, Terms};
-use nl_meaning::{Fault, Reason};
+use nl_model::{Fault, Reason};
 use std::alloc::{AllocError, Global};
-use texts::{Ledger, Steps};
+use text_base::{Ledger, Steps};
 
 /// Whether the variables of terms strictly ascend and no factor is 0.
 pub(crate) fn are_ascending(terms: &[(u32, Dec)]) -> bool

@@ -1,11 +1,11 @@
 // The bodies of a file and one of its objectives, folded after the defined variables.
 ghost use Rattle.std.specs.Prelude.{◌≡◌, ◌+◌, ◌*◌, ◌≤◌, [], ◌∷◌, IfOk, IfErr, None, OnOk, Some, length, option_map, true};
-ghost use Rattle.texts.specs.Stopped.{IfFault};
+ghost use Rattle.text_base.specs.Stopped.{IfFault};
 ghost use Rattle.nl_model.specs.HeaderRules.{AreCounts};
 ghost use Rattle.nl_model.specs.Rules.{IsFile};
 ghost use Rattle.nl_model.specs.declared.at.Owner.TheVariants.{Con as OfConstraint, Obj as OfObjective};
-ghost use Rattle.file_meaning.specs.FoldFaults.{has_objective, most_coefficients, owners_fault, owners_of};
-ghost use Rattle.program_meaning.specs.Elements.{elements_from};
+ghost use Rattle.nl_model.specs.FoldFaults.{has_objective, most_coefficients, owners_fault, owners_of};
+ghost use Rattle.linear_program.specs.Elements.{elements_from};
 ghost use Rattle.linear_fold.specs.FoldedFaults.{HasFaultPlace, named_fault, step_bound};
 ghost use Rattle.linear_program.specs.Forms.{form_terms};
 ghost use Rattle.linear_fold.specs.InsideHeldBodies.{HasBodies, bodies_in};
@@ -17,7 +17,7 @@ use crate::owners::{Body, Folder, fold_body, fold_owner};
 use linear_program::Form;
 use nl_model::{NlFile, Owner};
 use std::alloc::Global;
-use texts::{Ledger, Steps, Stop};
+use text_base::{Ledger, Steps, Stop};
 
 /// The forms of bodies, and which are held: the terms of these are still those of the file.
 #[derive(Drop)]

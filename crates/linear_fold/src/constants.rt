@@ -2,15 +2,15 @@
 ghost use Rattle.std.specs.Prelude.{◌≡◌, ℕ, ◌+◌, ◌<◌, ◌^◌, pos, negsuc, [], ◌∷◌, false, true, length, reverse, unsigned_abs, MatchOption};
 ghost use Rattle.code_tables.specs.declared.class.OpClass.TheVariants.{Absolute, Ceiling, Floor, Power};
 ghost use Rattle.exact_numbers.specs.Values.{frac_value};
-ghost use Rattle.fractions.specs.Fits.{fits};
-ghost use Rattle.fractions.specs.Functions.{absolute_of as absolute_in, exponent_of as exponent_in, floor_of as floor_in, greater_of, lesser_of, power_of as power_in};
-ghost use Rattle.fractions.specs.Rational.{whole as whole_number};
+ghost use Rattle.exact_numbers.specs.Fits.{fits};
+ghost use Rattle.exact_numbers.specs.Functions.{absolute_of as absolute_in, exponent_of as exponent_in, floor_of as floor_in, greater_of, lesser_of, power_of as power_in};
+ghost use Rattle.exact_numbers.specs.Rational.{whole as whole_number};
 ghost use Rattle.linear_fold.specs.InsideOperates.{AreOperands, AreUnbroken, IsOperand, IsUnbroken, IsValueOf, Operates, best_class, better_of, lines_of_parts, part_line};
 
 use crate::operate::Outcome;
 use crate::parts::PartialForm;
 use exact_numbers::Frac;
-use nl_meaning::Reason;
+use nl_model::Reason;
 use std::cmp::Ordering;
 
 // The value of an exponent that is whole and from 0 to 127.

@@ -1,11 +1,11 @@
 // The defined variables of a file, folded in file order.
 ghost use Rattle.std.specs.Prelude.{◌≡◌, ◌+◌, ◌*◌, ◌≤◌, [], ◌∷◌, IfOk, IfErr, None, OnOk, Some, length, replicate, slice_get, take};
-ghost use Rattle.texts.specs.Stopped.{IfFault};
-ghost use Rattle.nl_meaning.specs.Trees.{tree_size};
+ghost use Rattle.text_base.specs.Stopped.{IfFault};
+ghost use Rattle.nl_model.specs.Trees.{tree_size};
 ghost use Rattle.nl_model.specs.HeaderRules.{AreCounts};
 ghost use Rattle.nl_model.specs.Rules.{IsFile};
 ghost use Rattle.nl_model.specs.declared.at.Owner.TheVariants.{Def as OfDefinition};
-ghost use Rattle.program_meaning.specs.Elements.{elements_from};
+ghost use Rattle.linear_program.specs.Elements.{elements_from};
 ghost use Rattle.linear_fold.specs.FoldedFaults.{HasFaultPlace};
 ghost use Rattle.linear_fold.specs.InsideOwnerFolds.{AreOwnersFolded, HasFolded, definitions_size, owned_at};
 
@@ -15,7 +15,7 @@ use crate::owners::{Folder, fold_owner};
 use linear_program::{Form, Pad};
 use nl_model::{Def, NlFile, Owner, defined_count};
 use std::alloc::{AllocError, Global};
-use texts::{Ledger, Steps, Stop};
+use text_base::{Ledger, Steps, Stop};
 
 // So many places without forms.
 fn empty_slots(alloc: Global, count: u64) -> Result<Vec<Option<Form>>, AllocError>

@@ -1,7 +1,7 @@
 // What a whole tree comes to.
 use exact_numbers::Frac;
 use linear_program::Form;
-use nl_meaning::Fault;
+use nl_model::Fault;
 
 /// What a tree, or an expression, came to.
 #[derive(Drop)]

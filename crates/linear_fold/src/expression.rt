@@ -1,12 +1,12 @@
 // Expressions folded to forms: a tree, which may be missing, and its linear terms.
 ghost use Rattle.std.specs.Prelude.{◌≡◌, ℕ, ◌+◌, ◌*◌, ◌^◌, ◌<◌, ◌≤◌, List, [], ◌∷◌, IfOk, IfSome, OnOk, OnErr, length, option_copied};
 ghost use Rattle.std.specs.Option.{option_map_or};
-ghost use Rattle.texts.specs.Stopped.{IfFault};
-ghost use Rattle.program_meaning.specs.Lines.{Line, Point};
-ghost use Rattle.nl_meaning.specs.Trees.{Known, LinearTerm, Tree, tree_size};
+ghost use Rattle.text_base.specs.Stopped.{IfFault};
+ghost use Rattle.linear_program.specs.Lines.{Line, Point};
+ghost use Rattle.nl_model.specs.Trees.{Known, LinearTerm, Tree, tree_size};
 ghost use Rattle.nl_model.specs.Nodes.{IsTreeFormed};
 ghost use Rattle.nl_model.specs.Rules.{AreTermsBelow};
-ghost use Rattle.file_meaning.specs.Expressions.{linear_terms, tree_or_zero};
+ghost use Rattle.nl_model.specs.Expressions.{linear_terms, tree_or_zero};
 ghost use Rattle.linear_fold.specs.InsideFolds.{AddsTerms, AreKnown, AreSlotsWithin, ComesToTerms, IsEntryWithin, IsExpressionFolded, IsFolded, IsTreeGiven};
 ghost use Rattle.linear_program.specs.Forms.{IsWithin, form_line, place_count, sum_line};
 ghost use Rattle.linear_fold.specs.InsideOperates.{IsBlank, IsPad};
@@ -17,11 +17,10 @@ use crate::fold::{Room, fold_tree};
 use crate::leaf_sums::leaf_sum;
 use exact_numbers::{Dec, Frac};
 use linear_program::{Form, Pad, Sum, Terms};
-use nl_meaning::{Fault, Reason};
-use nl_model::Expr;
+use nl_model::{Expr, Fault, Reason};
 use std::alloc::{AllocError, Global};
 use std::mem;
-use texts::{Ledger, Steps, Stop};
+use text_base::{Ledger, Steps, Stop};
 
 /// How many nodes an expression has; a missing one is the number 0.
 pub(crate) fn node_count(tree: Option<&Expr>) -> usize

@@ -1,7 +1,7 @@
 // Trees folded to forms, from the last node to the first.
 ghost use Rattle.std.specs.Prelude.{◌≡◌, ℕ, ◌+◌, ◌++◌, ◌*◌, ◌<◌, ◌≤◌, List, [], ◌∷◌, IfOk, OnOk, length, reverse, take, true, vec_len};
-ghost use Rattle.nl_meaning.specs.Trees.{Takes, rule_of, Known, Tree, Trees, defined, number, operator, variable};
-ghost use Rattle.program_meaning.specs.Lines.{Point};
+ghost use Rattle.nl_model.specs.Trees.{Takes, rule_of, Known, Tree, Trees, defined, number, operator, variable};
+ghost use Rattle.linear_program.specs.Lines.{Point};
 ghost use Rattle.nl_model.specs.Nodes.{AreNodesFormed, trees_of, with_node};
 ghost use Rattle.linear_fold.specs.InsideFolds.{AreKnown, AreNodesWithin, AreOperandsOf, ArePartsFolded, ArePartsWithin, AreSlotsWithin, IsEntryWithin, IsFolded, IsGiven, IsPartFolded, IsPartWithin, NodeFinds};
 ghost use Rattle.linear_fold.specs.InsideOperates.{AreSameParts, IsLeft, IsPad};
@@ -12,10 +12,9 @@ use crate::parts::{PartialForm, first_fault, operands_of, take_last, unit_of};
 use code_tables::{OpClass, class_of};
 use exact_numbers::{Dec, Frac};
 use linear_program::{Form, Pad};
-use nl_meaning::{Fault, Reason};
-use nl_model::Node;
+use nl_model::{Fault, Node, Reason};
 use std::alloc::{AllocError, Global};
-use texts::{Ledger, Steps};
+use text_base::{Ledger, Steps};
 
 // A stack has room for so many parts at first.
 const MOST_AT_FIRST: usize = 16;

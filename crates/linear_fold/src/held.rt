@@ -1,8 +1,8 @@
 // Rows whose terms are handed on as they stand: those of a number, where they ascend.
 ghost use Rattle.std.specs.Prelude.{◌≡◌, ◌+◌, ◌*◌, ◌≤◌, IfSome, None, length, option_copied};
-ghost use Rattle.nl_meaning.specs.Trees.{Tree};
+ghost use Rattle.nl_model.specs.Trees.{Tree};
 ghost use Rattle.nl_model.specs.Nodes.{AreNodesOf};
-ghost use Rattle.file_meaning.specs.Expressions.{tree_or_zero};
+ghost use Rattle.nl_model.specs.Expressions.{tree_or_zero};
 ghost use Rattle.linear_fold.specs.InsideHeld.{IsHeld, IsNumber};
 
 use crate::ascending::{are_ascending, are_zero, with_decimals};
@@ -10,7 +10,7 @@ use crate::entries::Held;
 use crate::expression::node_count;
 use exact_numbers::{Dec, Frac};
 use nl_model::{Expr, Node};
-use texts::{Ledger, Steps};
+use text_base::{Ledger, Steps};
 
 // The number that nodes are, where it has a fraction.
 #[inline]

@@ -2,10 +2,10 @@
 // coefficients of a form: as they stand, or as fractions where the first is divided by a number.
 ghost use Rattle.std.specs.Prelude.{◌≡◌, ◌∷◌, [], ℕ, ◌+◌, ◌<◌, ◌≤◌, None, Some, drop, IfOk, IfSome, length, true};
 ghost use Rattle.exact_numbers.specs.Values.{frac_value};
-ghost use Rattle.program_meaning.specs.Lines.{Point};
-ghost use Rattle.nl_meaning.specs.Trees.{Known, first_trees};
+ghost use Rattle.linear_program.specs.Lines.{Point};
+ghost use Rattle.nl_model.specs.Trees.{Known, first_trees};
 ghost use Rattle.nl_model.specs.Nodes.{trees_of};
-ghost use Rattle.fractions.specs.Rational.{zero_ℚ};
+ghost use Rattle.exact_numbers.specs.Rational.{zero_ℚ};
 ghost use Rattle.linear_program.specs.Coefs.{value_or_zero};
 ghost use Rattle.linear_program.specs.Forms.{parts_line};
 ghost use Rattle.nl_model.specs.declared.node.Node.TheVariants.{Op};
@@ -16,7 +16,7 @@ use exact_numbers::{Dec, Frac};
 use linear_program::{Coefficients, Form, Terms};
 use nl_model::Node;
 use std::alloc::{AllocError, Global};
-use texts::{Ledger, Steps};
+use text_base::{Ledger, Steps};
 
 const PRODUCT: u32 = 2;
 

@@ -2,8 +2,8 @@
 ghost use Rattle.std.specs.Prelude.{◌≡◌, ◌+◌, ◌*◌, ◌≤◌, [], ◌∷◌, IfOk, OnOk, length, ℕ, ◌<◌, reverse, take, vec_len};
 ghost use Rattle.code_tables.specs.declared.class.OpClass.TheVariants.{Product, Quotient};
 ghost use Rattle.exact_numbers.specs.Values.{frac_value};
-ghost use Rattle.program_meaning.specs.Lines.{constant_line, line_scaled, products_fit};
-ghost use Rattle.nl_meaning.specs.Trees.{Takes, rule_of};
+ghost use Rattle.linear_program.specs.Lines.{constant_line, line_scaled, products_fit};
+ghost use Rattle.nl_model.specs.Trees.{Takes, rule_of};
 ghost use Rattle.linear_program.specs.Forms.{IsWithin, form_line};
 ghost use Rattle.linear_fold.specs.InsideOperates.{AreOperands, ComesTo, IsLeft, IsOperand, IsPad, Operates, lines_of_parts, multiple_line, part_line};
 
@@ -12,9 +12,9 @@ use crate::{constants, sums};
 use code_tables::OpClass;
 use exact_numbers::Frac;
 use linear_program::{Form, Pad};
-use nl_meaning::Reason;
+use nl_model::Reason;
 use std::alloc::{AllocError, Global};
-use texts::{Ledger, Steps, Stop};
+use text_base::{Ledger, Steps, Stop};
 
 /// The form of an operator, or why it has none.
 #[derive(Drop)]

@@ -1,11 +1,11 @@
 // Owners folded one by one: what has a tree and terms.
 ghost use Rattle.std.specs.Prelude.{◌≡◌, ◌+◌, ◌*◌, ◌^◌, ◌<◌, ◌≤◌, [], ◌∷◌, false, IfOk, IfErr, IfSome, None, OnOk, length, option_copied};
-ghost use Rattle.texts.specs.Stopped.{IfFault};
+ghost use Rattle.text_base.specs.Stopped.{IfFault};
 ghost use Rattle.nl_model.specs.FilePlaces.{terms_at, tree_at};
 ghost use Rattle.nl_model.specs.Rules.{IsFile};
 ghost use Rattle.nl_model.specs.declared.at.At.TheVariants.{Head};
 ghost use Rattle.nl_model.specs.declared.at.Owner.TheVariants.{Con};
-ghost use Rattle.file_meaning.specs.FoldFaults.{most_coefficients};
+ghost use Rattle.nl_model.specs.FoldFaults.{most_coefficients};
 ghost use Rattle.linear_fold.specs.declared.fold_fault.FoldFault.TheVariants.{FoldTooLarge};
 ghost use Rattle.linear_fold.specs.FoldedFaults.{HasFaultPlace, fault_for, place_after};
 ghost use Rattle.linear_program.specs.Coefs.{AreAscending};
@@ -19,10 +19,9 @@ use crate::fold::Room;
 use crate::fold_fault::FoldFault;
 use crate::held::held_row;
 use linear_program::{Form, Terms};
-use nl_meaning::{Fault, Reason};
-use nl_model::{At, Expr, NlFile, Owner};
+use nl_model::{At, Expr, Fault, NlFile, Owner, Reason};
 use std::alloc::Global;
-use texts::{Ledger, Steps, Stop};
+use text_base::{Ledger, Steps, Stop};
 
 // The most coefficients of a folded file.
 const MOST_COEFFICIENTS: usize = 0x80_0000;

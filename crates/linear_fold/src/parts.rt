@@ -2,8 +2,8 @@
 // allocate nothing.
 ghost use Rattle.std.specs.Prelude.{◌≡◌, ◌+◌, ◌≤◌, ◌∷◌, List, ℕ, IfOk, IfSome, OnOk, false, is_some, length, reverse, take, vec_len, [], ◌++◌};
 ghost use Rattle.exact_numbers.specs.Values.{frac_value};
-ghost use Rattle.fractions.specs.Rational.{zero_ℚ};
-ghost use Rattle.program_meaning.specs.Lines.{is_constant, is_zero, line_neg};
+ghost use Rattle.exact_numbers.specs.Rational.{zero_ℚ};
+ghost use Rattle.linear_program.specs.Lines.{is_constant, is_zero, line_neg};
 ghost use Rattle.linear_program.specs.Forms.{IsWithin, form_line, form_terms, is_open};
 ghost use Rattle.linear_fold.specs.InsideFolds.{IsEntryOf, IsPartWithin, first_broken};
 ghost use Rattle.linear_fold.specs.InsideOperates.{HasPlaces, IsOperand, IsPad, IsPlaced, IsSamePart, IsSound, IsUnbroken, IsUnit, is_open_part, multiple_line, part_line};
@@ -11,10 +11,10 @@ ghost use Rattle.linear_fold.specs.InsideOperates.{HasPlaces, IsOperand, IsPad, 
 use crate::entries::Entry;
 use exact_numbers::Frac;
 use linear_program::{Coefficients, Form, Pad};
-use nl_meaning::Fault;
+use nl_model::Fault;
 use std::alloc::{AllocError, Global};
 use std::mem;
-use texts::{Ledger, Steps, Stop};
+use text_base::{Ledger, Steps, Stop};
 
 /// What a part of a tree came to: a number, a factor times a variable, a form, the opposite of a form,
 /// or a fault. A form may be open: then what is added to the part is added in its place.

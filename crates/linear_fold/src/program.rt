@@ -1,9 +1,9 @@
 // The fold of a whole file.
 ghost use Rattle.std.specs.Prelude.{◌≡◌, ◌<◌, ◌==◌, ◌&&◌, ◌||◌, IfOk, IfErr, OnOk, nat_lt, true};
-ghost use Rattle.texts.specs.Stopped.{IfFault};
+ghost use Rattle.text_base.specs.Stopped.{IfFault};
 ghost use Rattle.nl_model.specs.HeaderRules.{AreCounts};
 ghost use Rattle.nl_model.specs.Rules.{IsFile};
-ghost use Rattle.file_meaning.specs.Expressions.{maximises};
+ghost use Rattle.nl_model.specs.Expressions.{maximises};
 ghost use Rattle.linear_fold.specs.FoldedFile.{IsLinearOf, FoldsWith, IsFirstFault, AreFoldSteps};
 ghost use Rattle.linear_fold.specs.InsideHeldBodies.{HasBodies, bodies_in};
 ghost use Rattle.linear_fold.specs.InsideOwnerFolds.{AreFormsOf};
@@ -15,7 +15,7 @@ use crate::fold_fault::FoldFault;
 use linear_program::{Form, Interval, Linear};
 use nl_model::{Counts, NlFile, all_kinds};
 use std::alloc::{AllocError, Global};
-use texts::{Ledger, Steps, Stop};
+use text_base::{Ledger, Steps, Stop};
 
 // Whether there is such an objective; a file without objectives has the objective 0.
 fn has_objective(counts: &Counts, objective: u32) -> bool

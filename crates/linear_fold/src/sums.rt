@@ -3,7 +3,7 @@
 ghost use Rattle.std.specs.Prelude.{◌≡◌, Bool, true, ◌+◌, ◌*◌, ◌<◌, ◌≤◌, ℕ, IfOk, OnOk, reverse, take, vec_len};
 ghost use Rattle.code_tables.specs.declared.class.OpClass.TheVariants.{Difference, List, Negation, Product};
 ghost use Rattle.exact_numbers.specs.Values.{frac_value};
-ghost use Rattle.program_meaning.specs.Lines.{Line, line_sum, running_line, running_sums_fit, sums_fit};
+ghost use Rattle.linear_program.specs.Lines.{Line, line_sum, running_line, running_sums_fit, sums_fit};
 ghost use Rattle.linear_program.specs.Forms.{AddsScaled, form_line, is_open, pad_places};
 ghost use Rattle.linear_fold.specs.InsideOperates.{AreOperands, AreUnbroken, ComesTo, HasPlaces, IsForm, IsLeft, IsOperand, IsPad, IsSameSum, IsSound, IsUnbroken, IsUnit, Operates, SumsTo, lines_of_parts, multiple_line, part_line};
 
@@ -11,10 +11,10 @@ use crate::operate::Outcome;
 use crate::parts::{PartialForm, form_of_multiple, take_last};
 use exact_numbers::Frac;
 use linear_program::{Form, Pad, Wide};
-use nl_meaning::Reason;
+use nl_model::Reason;
 use std::alloc::{AllocError, Global};
 use std::mem;
-use texts::{Ledger, Steps, Stop};
+use text_base::{Ledger, Steps, Stop};
 
 // Adds k times a factor times a variable to an open form; a step for the constant, which is 0, and
 // for the term.

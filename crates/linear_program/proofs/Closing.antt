@@ -7,7 +7,7 @@ use Rattle.std.proofs.lemmas.List.{length-set}
 use Rattle.std.proofs.lemmas.List.Sorted.{Contains-permutation, IsPermutation-sym}
 use Rattle.exact_numbers.specs.declared.frac.Frac.{Frac}
 use Rattle.exact_numbers.specs.Values.{frac_value}
-use Rattle.fractions.specs.Rational.{zero_ℚ}
+use Rattle.exact_numbers.specs.Rational.{zero_ℚ}
 use Rattle.linear_program.specs.Coefs.{Term, found, value_or_zero, coef_in, AreAscending, AreBelow}
 use Rattle.linear_program.specs.Places.{place_in, AreZeros, AreMarked}
 use Rattle.linear_program.proofs.CoefLemmas.{found_same, found_apart, ascending_append, below_append, below_from}
@@ -61,7 +61,9 @@ below_strict j (x ∷ out) b e =
     ⊎_elim (λ (s : j ≡ x.0). absurd (let clash : Some x.1 ≡ None = sym (found_same x out j s) ∙ e in cc))
     (λ (m : j ≢ x.0). (omega arith, below_strict j out b.1 (sym (found_apart x out j m) ∙ e))) (cases_eq j x.0)
 
-module _ (start ps : List Frac) (out : List Term) (touched : List ℕ) (i j : ℕ) (value zero_frac : Frac) (more : i < length touched) (is : j ≡ get_or touched i 0) (at : place_in ps j ≡ frac_value value) (rising : IsNonDecreasingBy (λ x. x) touched) (c : Closing start ps out touched i) where
+module _ (start ps : List Frac) (out : List Term) (touched : List ℕ) (i j : ℕ) (value zero_frac : Frac)
+    (more : i < length touched) (is : j ≡ get_or touched i 0) (at : place_in ps j ≡ frac_value value)
+    (rising : IsNonDecreasingBy (λ x. x) touched) (c : Closing start ps out touched i) where
   -- a place that holds 0 is passed
   pub closing_pass : frac_value value ≡ zero_ℚ → Closing start ps out touched (i + 1)
   closing_pass z =
@@ -79,17 +81,26 @@ module _ (start ps : List Frac) (out : List Term) (touched : List ℕ) (i j : �
 
   pub closing_more : frac_value value ≢ zero_ℚ → frac_value zero_frac ≡ zero_ℚ → j < length ps → Closing start (slice_set ps j zero_frac) (out ++ (j, value) ∷ []) touched (i + 1)
   closing_more live z within =
-      let none : (found out j ≡ None) × (place_in ps j ≡ place_in start j) = ⊎_elim (λ (l : (place_in ps j ≡ zero_ℚ) × (coef_in out j ≡ place_in start j)). absurd (live (sym at ∙ l.0))) (λ (r : (found out j ≡ None) × (place_in ps j ≡ place_in start j)). r) (c.moved j) in
+      let none : (found out j ≡ None) × (place_in ps j ≡ place_in start j) =
+      ⊎_elim (λ (l : (place_in ps j ≡ zero_ℚ) × (coef_in out j ≡ place_in start j)). absurd (live (sym at ∙ l.0)))
+      (λ (r : (found out j ≡ None) × (place_in ps j ≡ place_in start j)). r) (c.moved j) in
       let up : AreBelow (suc j) out = subst (λ k. AreBelow (suc k) out) (sym is) (c.below i (omega arith) more) in
       let gone : place_in (slice_set ps j zero_frac) j ≡ zero_ℚ = place_set_same ps j zero_frac within ∙ z in
       record {
         moved = λ q.
             ⊎_elim
-            (λ (e : q ≡ j). inl (ap (place_in (slice_set ps j zero_frac)) e ∙ gone, ap (coef_in (out ++ (j, value) ∷ [])) e ∙ ap value_or_zero (found_last out (j, value) none.0) ∙ sym at ∙ none.1 ∙ ap (place_in start) (sym e)))
+            (λ (e : q ≡ j). inl (
+              ap (place_in (slice_set ps j zero_frac)) e ∙ gone,
+              ap (coef_in (out ++ (j, value) ∷ [])) e ∙ ap value_or_zero (found_last out (j, value) none.0) ∙ sym at
+                  ∙ none.1 ∙ ap (place_in start) (sym e),
+            ))
             (λ (n : q ≢ j).
             let same = place_set_other ps j zero_frac q n in
             let other = found_other out (j, value) q n in
-            ⊎_elim (λ (l : (place_in ps q ≡ zero_ℚ) × (coef_in out q ≡ place_in start q)). inl (same ∙ l.0, ap value_or_zero other ∙ l.1)) (λ (r : (found out q ≡ None) × (place_in ps q ≡ place_in start q)). inr (other ∙ r.0, same ∙ r.1)) (c.moved q))
+            ⊎_elim (λ (l : (place_in ps q ≡ zero_ℚ) × (coef_in out q ≡ place_in start q)). inl
+            (same ∙ l.0, ap value_or_zero other ∙ l.1))
+            (λ (r : (found out q ≡ None) × (place_in ps q ≡ place_in start q)). inr (other ∙ r.0, same ∙ r.1))
+            (c.moved q))
             (cases_eq q j);
         ascending = ascending_append 0 j out ((j, value) ∷ []) (omega arith) c.ascending (below_strict j out up none.0) (omega arith, live, tt);
         below = λ k h l.
@@ -104,10 +115,13 @@ module _ (start ps : List Frac) (out : List Term) (touched : List ℕ) (i j : �
         count = length-set ps j zero_frac ∙ c.count;
       }
 
-pub closing_end : (start ps : List Frac) (out : List Term) (touched : List ℕ) (i : ℕ) → length touched ≤ i → Closing start ps out touched i → ((q : ℕ) → place_in ps q ≢ zero_ℚ → ⊥) × ((q : ℕ) → (place_in ps q ≡ zero_ℚ) → coef_in out q ≡ place_in start q)
+pub closing_end : (start ps : List Frac) (out : List Term) (touched : List ℕ) (i : ℕ) → length touched ≤ i
+    → Closing start ps out touched i → ((q : ℕ) → place_in ps q ≢ zero_ℚ → ⊥)
+    × ((q : ℕ) → (place_in ps q ≡ zero_ℚ) → coef_in out q ≡ place_in start q)
 closing_end start ps out touched i done c = (
   λ q n. (let r = c.marked q n in let a = r.1 in let b = r.2 in omega arith),
-  λ q z. ⊎_elim (λ (l : (place_in ps q ≡ zero_ℚ) × (coef_in out q ≡ place_in start q)). l.1) (λ (r : (found out q ≡ None) × (place_in ps q ≡ place_in start q)). ap value_or_zero r.0 ∙ sym z ∙ r.1) (c.moved q),
+  λ q z. ⊎_elim (λ (l : (place_in ps q ≡ zero_ℚ) × (coef_in out q ≡ place_in start q)). l.1)
+      (λ (r : (found out q ≡ None) × (place_in ps q ≡ place_in start q)). ap value_or_zero r.0 ∙ sym z ∙ r.1) (c.moved q),
 )
 
 get_or_of : (xs : List ℕ) (k d f : ℕ) → k < length xs → get_or xs k d ≡ get_or xs k f
@@ -120,7 +134,8 @@ pub touched_place : (start : List Frac) (touched ordered : List ℕ) (i : ℕ) �
 touched_place start touched ordered i m moved h =
     m.there (get_or ordered i 0) (Contains-permutation ordered touched (get_or ordered i 0) (IsPermutation-sym touched ordered moved) (i, h, get_or_of ordered i (get_or ordered i 0) 0 h))
 
-pub closing_begin : (start ps : List Frac) (touched ordered seen : List ℕ) (out : List Term) → ps ≡ start → out ≡ [] → seen ≡ ordered → AreMarked ps touched → IsPermutation touched ordered → Closing start ps out seen 0
+pub closing_begin : (start ps : List Frac) (touched ordered seen : List ℕ) (out : List Term) → ps ≡ start → out ≡ []
+    → seen ≡ ordered → AreMarked ps touched → IsPermutation touched ordered → Closing start ps out seen 0
 closing_begin start ps touched ordered seen out view empty e m moved =
     subst (λ p. Closing start p out seen 0) (sym view)
     (closing_init start seen out empty

@@ -3,10 +3,10 @@ use Rattle.std.proofs.Common.{◌≡◌, ◌≢◌, ℕ, zero, suc, ◌<◌, ◌
 use Rattle.std.proofs.lemmas.Bool.{cases_eq, eq-eqb, ne_eqb}
 use Rattle.exact_numbers.specs.declared.frac.Frac.{Frac}
 use Rattle.exact_numbers.specs.Values.{frac_value}
-use Rattle.fractions.specs.Rational.{ℚ, zero_ℚ, ◌+ℚ◌, ◌*ℚ◌}
-use Rattle.fractions.proofs.Arithmetic.{+ℚ_zero, *ℚ_zero, *ℚ_one}
-use Rattle.program_meaning.specs.Lines.{one_if}
-use Rattle.program_meaning.proofs.LineLemmas.{same-eqb, apart-eqb}
+use Rattle.exact_numbers.specs.Rational.{ℚ, zero_ℚ, ◌+ℚ◌, ◌*ℚ◌}
+use Rattle.exact_numbers.proofs.RationalLaws.{+ℚ_zero, *ℚ_zero, *ℚ_one}
+use Rattle.linear_program.specs.Lines.{one_if}
+use Rattle.linear_program.proofs.LineLemmas.{same-eqb, apart-eqb}
 use Rattle.linear_program.specs.Coefs.{Term, found, AreAscending, AreBelow}
 
 pub found_same : (t : Term) (ts : List Term) (j : ℕ) → j ≡ t.0 → found (t ∷ ts) j ≡ Some t.1

@@ -8,9 +8,9 @@ use Rattle.exact_numbers.specs.declared.dec.Dec.{Dec}
 use Rattle.exact_numbers.specs.declared.frac.Frac.{Frac}
 use Rattle.exact_numbers.specs.Fraction.{IsFrac}
 use Rattle.exact_numbers.specs.Values.{dec_value, frac_value}
-use Rattle.fractions.specs.Fits.{fits}
-use Rattle.fractions.proofs.Values.{own_value, same_value}
-use Rattle.fractions.specs.Rational.{ℚ}
+use Rattle.exact_numbers.specs.Fits.{fits}
+use Rattle.exact_numbers.proofs.Values.{own_value, same_value}
+use Rattle.exact_numbers.specs.Rational.{ℚ}
 use Rattle.linear_program.specs.Coefs.{AreAscending, AreDecimalsOf}
 use Rattle.linear_program.specs.Decimals.{DecimalTerm, AreDecimals, frac_of, frac_where, fraction_term, fraction_terms}
 

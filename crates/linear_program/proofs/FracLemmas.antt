@@ -4,14 +4,14 @@ use Rattle.std.proofs.lemmas.Bool.{false_from_ne_true}
 use Rattle.exact_numbers.specs.declared.frac.Frac.{Frac}
 use Rattle.exact_numbers.proofs.Bridge.{frac_fits_lem}
 use Rattle.exact_numbers.proofs.Zeros.{fits_zero}
-use Rattle.fractions.specs.Divisors.{AreCoprime}
-use Rattle.fractions.specs.Fits.{fits, is_small}
-use Rattle.fractions.specs.Rational.{ℚ, neg_ℚ, zero_ℚ}
-use Rattle.fractions.proofs.Arithmetic.{over_lowest, neg_size}
+use Rattle.exact_numbers.specs.Divisors.{AreCoprime}
+use Rattle.exact_numbers.specs.Fits.{fits, is_small}
+use Rattle.exact_numbers.specs.Rational.{ℚ, neg_ℚ, zero_ℚ}
+use Rattle.exact_numbers.proofs.RationalLaws.{over_lowest, neg_size}
 use Rattle.linear_program.specs.Coefs.{Term, found, value_or_zero, coef_in}
 use Rattle.linear_program.specs.Places.{place_in}
-use Rattle.program_meaning.proofs.LineLemmas.{is_zero-true}
-use Rattle.program_meaning.specs.Lines.{is_zero}
+use Rattle.linear_program.proofs.LineLemmas.{is_zero-true}
+use Rattle.linear_program.specs.Lines.{is_zero}
 
 pub fits_neg : (x : ℚ) → fits (neg_ℚ x) ≡ fits x
 unfolding neg_ℚ

@@ -2,7 +2,7 @@
 use Rattle.std.proofs.Common.{◌≡◌, ℕ, zero, suc, ◌∙◌, sym, refl, subst, arith, List, [], ◌∷◌, length, replicate}
 use Rattle.exact_numbers.specs.declared.frac.Frac.{Frac}
 use Rattle.exact_numbers.specs.Values.{frac_value}
-use Rattle.fractions.specs.Rational.{zero_ℚ}
+use Rattle.exact_numbers.specs.Rational.{zero_ℚ}
 use Rattle.linear_program.specs.Coefs.{Term}
 use Rattle.linear_program.specs.Places.{place_in, terms_from, all_places, put_all, AreZeros}
 use Rattle.linear_program.proofs.PlaceTerms.{no_terms}

@@ -1,3 +1,6 @@
+pub mod Elements
+pub mod LineLemmas
+pub mod Sides
 pub mod Closing
 pub mod CoefLemmas
 pub mod DecimalLemmas
@@ -10,3 +13,7 @@ pub mod PlaceTerms
 pub mod Products
 pub mod PutLemmas
 pub mod Scaled
+pub mod BucketLemmas
+pub mod ChunkLemmas
+pub mod PartLemmas
+pub mod PickLemmas

@@ -1,13 +1,15 @@
 -- Two ascending lists, merged by variable.
-use Rattle.std.proofs.Common.{◌≡◌, ◌≢◌, Ok, Err, ℕ, suc, ◌+◌, ◌<◌, ◌≤◌, ⊎_elim, ◌∙◌, sym, ap, ap₂, refl, subst, arith, true, false, None, Some, List, [], ◌∷◌, ◌++◌, append_assoc, drop, drop-cons, get_or, length}
+use Rattle.std.proofs.Common.{◌≡◌, ◌≢◌, Ok, Err, ℕ, suc, ◌+◌, ◌<◌, ◌≤◌, ⊎_elim, ◌∙◌, sym, ap, ap₂, refl, subst, arith}
+use Rattle.std.proofs.Common.{true, false, None, Some, List, [], ◌∷◌, ◌++◌, append_assoc, drop, drop-cons, get_or}
+use Rattle.std.proofs.Common.{length}
 use Rattle.std.proofs.lemmas.Bool.{cases_eq, cases_lt}
-use Rattle.fractions.specs.Rational.{ℚ, zero_ℚ, ◌+ℚ◌, ◌*ℚ◌}
-use Rattle.fractions.proofs.Arithmetic.{+ℚ_zero, zero-+ℚ}
-use Rattle.fractions.specs.Fits.{fits, sum_fits}
-use Rattle.program_meaning.specs.Lines.{Line}
-use Rattle.texts.specs.declared.stop.Stop.{Stop}
-use Rattle.texts.specs.declared.stop.Stop.TheVariants.{Fault, Memory}
-use Rattle.texts.specs.Stopped.{IfFault}
+use Rattle.exact_numbers.specs.Rational.{ℚ, zero_ℚ, ◌+ℚ◌, ◌*ℚ◌}
+use Rattle.exact_numbers.proofs.RationalLaws.{+ℚ_zero, zero-+ℚ}
+use Rattle.exact_numbers.specs.Fits.{fits, sum_fits}
+use Rattle.linear_program.specs.Lines.{Line}
+use Rattle.text_base.specs.declared.stop.Stop.{Stop}
+use Rattle.text_base.specs.declared.stop.Stop.TheVariants.{Fault, Memory}
+use Rattle.text_base.specs.Stopped.{IfFault}
 use Rattle.linear_program.specs.declared.too_wide.Wide.{Wide}
 use Rattle.linear_program.specs.Forms.{AreSummedUp, IsScaledSum, ScaledSumFits, adds_fit, parts_line}
 use Rattle.linear_program.proofs.FracLemmas.{coef_fits}
@@ -77,11 +79,15 @@ module _ (v : ℕ) (old : ℚ) (all done rest : List Term) (whole : done ++ rest
       ∙ zero-+ℚ (coef_in rest v) ∙ sym is
 
   module _ (k sum : ℚ) (now left : List Term) (under : AreBelow (suc v) now) (above : AreAscending (suc v) left) where
-    pub term_merged : sum_fits old k ≡ true → sum ≡ old +ℚ k → coef_in now v ≡ sum → ((i : ℕ) → i ≢ v → coef_in now i ≡ coef_in done i) → ((i : ℕ) → i ≢ v → coef_in left i ≡ coef_in rest i) → IsAdded all v k (now ++ left)
+    pub term_merged : sum_fits old k ≡ true → sum ≡ old +ℚ k → coef_in now v ≡ sum
+        → ((i : ℕ) → i ≢ v → coef_in now i ≡ coef_in done i) → ((i : ℕ) → i ≢ v → coef_in left i ≡ coef_in rest i)
+        → IsAdded all v k (now ++ left)
     term_merged fine e there others beyond = (
       ap (λ x. sum_fits x k) old_value ∙ fine,
       adds_at (coef_in all) (coef_in (now ++ left)) v k
-          (coef_both (suc v) now left under above v ∙ ap (λ o. coef_in now v +ℚ value_or_zero o) (found_before (suc v) left v above (omega arith)) ∙ +ℚ_zero (coef_in now v) ∙ there ∙ e ∙ ap (λ x. x +ℚ k) (sym old_value))
+          (coef_both (suc v) now left under above v ∙ ap (λ o. coef_in now v +ℚ value_or_zero o)
+          (found_before (suc v) left v above (omega arith)) ∙ +ℚ_zero (coef_in now v) ∙ there ∙ e
+          ∙ ap (λ x. x +ℚ k) (sym old_value))
           (λ i n.
           coef_both (suc v) now left under above i ∙ ap₂ (λ x y. x +ℚ y) (others i n) (beyond i n) ∙ sym (coef_both v done rest below from i) ∙ ap (λ l. coef_in l i) whole),
     )
@@ -99,7 +105,9 @@ pub one_pushed : (done now left rest : List Term) (t : Term) → now ≡ done ++
 one_pushed done now left rest t e at = ap (λ xs. xs ++ rest) e ∙ append_assoc done (t ∷ []) rest ∙ ap (λ xs. done ++ xs) (sym at)
 
 -- ---- a constant and a list with k times a form
-module _ (c sum k : ℚ) (list ts : List Term) (b : Line) (ascending : AreAscending 0 ts) (is : (j : ℕ) → b.coef j ≡ coef_in ts j) (p : fits (k *ℚ b.constant) ≡ true) (s : sum_fits c (k *ℚ b.constant) ≡ true) (e : sum ≡ c +ℚ k *ℚ b.constant) where
+module _ (c sum k : ℚ) (list ts : List Term) (b : Line) (ascending : AreAscending 0 ts)
+    (is : (j : ℕ) → b.coef j ≡ coef_in ts j) (p : fits (k *ℚ b.constant) ≡ true) (s : sum_fits c (k *ℚ b.constant) ≡ true)
+    (e : sum ≡ c +ℚ k *ℚ b.constant) where
   pub list_summed : (new : List Term) → AreSummedUp list k ts new → IsScaledSum (parts_line c list) k b (parts_line sum new)
   list_summed new h = scaled_parts (parts_line c list) b sum k ts (coef_fits list) ascending is p s e (parts_line sum new) (Ok tt) (h sum)
 

@@ -6,9 +6,9 @@ use Rattle.std.proofs.lemmas.List.{length-set}
 use Rattle.std.proofs.lemmas.List.Elements.{Contains-append_left, Contains-append_right, Contains-append_cases}
 use Rattle.exact_numbers.specs.declared.frac.Frac.{Frac}
 use Rattle.exact_numbers.specs.Values.{frac_value}
-use Rattle.fractions.specs.Rational.{ℚ, zero_ℚ, ◌+ℚ◌, ◌*ℚ◌}
-use Rattle.program_meaning.specs.Lines.{is_zero, one_if}
-use Rattle.program_meaning.proofs.LineLemmas.{is_zero-true, is_zero-false}
+use Rattle.exact_numbers.specs.Rational.{ℚ, zero_ℚ, ◌+ℚ◌, ◌*ℚ◌}
+use Rattle.linear_program.specs.Lines.{is_zero, one_if}
+use Rattle.linear_program.proofs.LineLemmas.{is_zero-true, is_zero-false}
 use Rattle.linear_program.specs.Places.{place_in, AreZeros, AreMarked}
 use Rattle.linear_program.proofs.CoefLemmas.{adds_at}
 
@@ -47,7 +47,9 @@ module _ (ps : List Frac) (i : ℕ) (x : Frac) (within : i < length ps) where
         among = λ j n.
             ⊎_elim (λ (e : j ≡ i). subst (Contains (touched ++ i ∷ [])) (sym e) (Contains-append_right touched (i ∷ []) i (0, omega arith, refl)))
             (λ (apart : j ≢ i). Contains-append_left touched (i ∷ []) j (m.among j (λ z. n (place_set_other ps i x j apart ∙ z)))) (cases_eq j i);
-        there = λ j c. (let h = ⊎_elim (m.there j) (λ (o : Contains (i ∷ []) j). subst (λ q. q < length ps) (sym (one_only i j o)) within) (Contains-append_cases touched (i ∷ []) j c) in omega (arith, length-set ps i x));
+        there = λ j c. (let h = ⊎_elim (m.there j) (λ (o : Contains (i ∷ []) j). subst (λ q. q < length ps)
+            (sym (one_only i j o)) within) (Contains-append_cases touched (i ∷ []) j c) in
+            omega (arith, length-set ps i x));
         few = (let h = m.few in omega (arith, length-set ps i x));
       }
 

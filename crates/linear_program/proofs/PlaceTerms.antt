@@ -1,12 +1,14 @@
 -- The terms of places, and lists of terms that are one.
-use Rattle.std.proofs.Common.{◌≡◌, ◌≢◌, ℕ, zero, suc, ◌+◌, ◌<◌, ◌≤◌, ⊎_elim, ◌∙◌, sym, ap, ap₂, refl, subst, arith, Bool, true, false, if◌then◌else◌, Result, Ok, Err, OnErr, List, [], ◌∷◌, drop, length, get_or, drop-cons}
+use Rattle.std.proofs.Common.{◌≡◌, ◌≢◌, ℕ, zero, suc, ◌+◌, ◌<◌, ◌≤◌, ⊎_elim, ◌∙◌, sym, ap, ap₂, refl, subst, arith}
+use Rattle.std.proofs.Common.{Bool, true, false, if◌then◌else◌, Result, Ok, Err, OnErr, List, [], ◌∷◌, drop, length}
+use Rattle.std.proofs.Common.{get_or, drop-cons}
 use Rattle.std.proofs.lemmas.Bool.{cases_lt}
 use Rattle.exact_numbers.specs.declared.frac.Frac.{Frac}
 use Rattle.exact_numbers.specs.Values.{frac_value}
-use Rattle.fractions.specs.Rational.{zero_ℚ}
-use Rattle.fractions.proofs.Arithmetic.{zero-is_zero}
-use Rattle.program_meaning.specs.Lines.{Line, is_zero}
-use Rattle.program_meaning.proofs.LineLemmas.{is_zero-true, is_zero-false}
+use Rattle.exact_numbers.specs.Rational.{zero_ℚ}
+use Rattle.exact_numbers.proofs.RationalLaws.{zero-is_zero}
+use Rattle.linear_program.specs.Lines.{Line, is_zero}
+use Rattle.linear_program.proofs.LineLemmas.{is_zero-true, is_zero-false}
 use Rattle.linear_program.specs.Coefs.{Term, value_or_zero, coef_in, AreAscending}
 use Rattle.linear_program.specs.Places.{place_in, terms_from}
 use Rattle.linear_program.specs.Forms.{parts_line, sum_line}
@@ -61,8 +63,13 @@ same_terms n [] [] a b h = refl
 same_terms n [] (y ∷ ys) a b h = absurd (b.1 (sym (coef_there y ys) ∙ sym (h y.0)))
 same_terms n (x ∷ xs) [] a b h = absurd (a.1 (sym (coef_there x xs) ∙ h x.0))
 same_terms n (x ∷ xs) (y ∷ ys) a b h =
-    let first_apart : (s t : Term) (ss ts : List Term) → AreAscending n (s ∷ ss) → AreAscending n (t ∷ ts) → coef_in (s ∷ ss) s.0 ≡ coef_in (t ∷ ts) s.0 → s.0 < t.0 → ⊥ = λ s t ss ts u v e l. u.1 (sym (coef_there s ss) ∙ e ∙ ap value_or_zero (found_before t.0 (t ∷ ts) s.0 (omega arith, v.1, v.2) l)) in
-    let key : x.0 ≡ y.0 = ⊎_elim (λ (l : x.0 < y.0). absurd (first_apart x y xs ys a b (h x.0) l)) (λ (g : y.0 ≤ x.0). ⊎_elim (λ (l : y.0 < x.0). absurd (first_apart y x ys xs b a (sym (h y.0)) l)) (λ (m : x.0 ≤ y.0). omega arith) (cases_lt y.0 x.0)) (cases_lt x.0 y.0) in
+    let first_apart : (s t : Term) (ss ts : List Term) → AreAscending n (s ∷ ss) → AreAscending n (t ∷ ts)
+    → coef_in (s ∷ ss) s.0 ≡ coef_in (t ∷ ts) s.0 → s.0 < t.0 → ⊥ =
+    λ s t ss ts u v e l. u.1 (sym (coef_there s ss) ∙ e ∙ ap value_or_zero
+    (found_before t.0 (t ∷ ts) s.0 (omega arith, v.1, v.2) l)) in
+    let key : x.0 ≡ y.0 = ⊎_elim (λ (l : x.0 < y.0). absurd (first_apart x y xs ys a b (h x.0) l))
+    (λ (g : y.0 ≤ x.0). ⊎_elim (λ (l : y.0 < x.0). absurd (first_apart y x ys xs b a (sym (h y.0)) l))
+    (λ (m : x.0 ≤ y.0). omega arith) (cases_lt y.0 x.0)) (cases_lt x.0 y.0) in
     let value : x.1 ≡ y.1 = same_frac x.1 y.1 (sym (coef_there x xs) ∙ h x.0 ∙ ap (coef_in (y ∷ ys)) key ∙ coef_there y ys) in
     let rest = same_terms (suc x.0) xs ys a.2 (subst (λ k. AreAscending (suc k) ys) (sym key) b.2)
     (λ j.

@@ -3,14 +3,14 @@ use Rattle.std.proofs.Common.{◌≡◌, ◌≢◌, ℕ, suc, ◌<◌, ◌≤◌
 use Rattle.std.proofs.lemmas.Bool.{and_from, and_parts, cases_eq, cases_lt, false_from_ne_true}
 use Rattle.exact_numbers.specs.declared.frac.Frac.{Frac}
 use Rattle.exact_numbers.specs.Values.{frac_value}
-use Rattle.fractions.specs.Fits.{fits}
-use Rattle.fractions.specs.Rational.{ℚ, zero_ℚ, ◌*ℚ◌}
-use Rattle.fractions.proofs.Arithmetic.{*ℚ_cancel, *ℚ_zero, zero-*ℚ}
-use Rattle.program_meaning.specs.Lines.{line_scaled, products_fit, Line}
+use Rattle.exact_numbers.specs.Fits.{fits}
+use Rattle.exact_numbers.specs.Rational.{ℚ, zero_ℚ, ◌*ℚ◌}
+use Rattle.exact_numbers.proofs.RationalLaws.{*ℚ_cancel, *ℚ_zero, zero-*ℚ}
+use Rattle.linear_program.specs.Lines.{line_scaled, products_fit, Line}
 use Rattle.linear_program.specs.Coefs.{Term, value_or_zero, coef_in, AreAscending, AreProducts, HasWideProduct}
-use Rattle.texts.specs.declared.stop.Stop.{Stop}
-use Rattle.texts.specs.declared.stop.Stop.TheVariants.{Fault, Memory}
-use Rattle.texts.specs.Stopped.{IfFault}
+use Rattle.text_base.specs.declared.stop.Stop.{Stop}
+use Rattle.text_base.specs.declared.stop.Stop.TheVariants.{Fault, Memory}
+use Rattle.text_base.specs.Stopped.{IfFault}
 use Rattle.linear_program.specs.declared.too_wide.Wide.{Wide}
 use Rattle.linear_program.specs.Forms.{IsZeroFrom, Multiplies}
 use Rattle.linear_program.proofs.CoefLemmas.{found_same, found_apart}
@@ -65,7 +65,9 @@ wide_coef n k (t ∷ ts) up w =
     w
 
 module _ (a : Line) (k : ℚ) (ts : List Term) (is : (j : ℕ) → a.coef j ≡ coef_in ts j) where
-  pub products_are : (c : ℚ) (ps : List Term) → fits (k *ℚ a.constant) ≡ true → c ≡ k *ℚ a.constant → AreProducts k ts ps → ((n : ℕ) → products_fit n k a ≡ true) × ((record { constant = c; coef = coef_in ps }) ≡ line_scaled k a)
+  pub products_are : (c : ℚ) (ps : List Term) → fits (k *ℚ a.constant) ≡ true → c ≡ k *ℚ a.constant
+      → AreProducts k ts ps → ((n : ℕ) → products_fit n k a ≡ true)
+      × ((record { constant = c; coef = coef_in ps }) ≡ line_scaled k a)
   products_are c ps fine e p = (
     λ n. and_from _ _ fine (all_below-intro (λ j. fits (k *ℚ a.coef j)) n (λ j h. ap (λ x. fits (k *ℚ x)) (is j) ∙ (product_coef k ts ps j p).1)),
     same_line (record { constant = c; coef = coef_in ps }) (line_scaled k a) e (λ j. (product_coef k ts ps j p).0 ∙ ap (λ x. k *ℚ x) (sym (is j))),
@@ -87,7 +89,9 @@ module _ (a : Line) (k : ℚ) (ts : List Term) (is : (j : ℕ) → a.coef j ≡ 
 
 -- ---- the loop
 module _ (k : ℚ) (all left rest : List Term) (t : Term) (at : left ≡ t ∷ rest) where
-  pub one_product : (out now : List Term) (p : Frac) → now ≡ out ++ (t.0, p) ∷ [] → fits (k *ℚ frac_value t.1) ≡ true → frac_value p ≡ k *ℚ frac_value t.1 → ((ps : List Term) → AreProducts k left ps → AreProducts k all (out ++ ps)) → (ps : List Term) → AreProducts k rest ps → AreProducts k all (now ++ ps)
+  pub one_product : (out now : List Term) (p : Frac) → now ≡ out ++ (t.0, p) ∷ [] → fits (k *ℚ frac_value t.1) ≡ true
+      → frac_value p ≡ k *ℚ frac_value t.1 → ((ps : List Term) → AreProducts k left ps → AreProducts k all (out ++ ps))
+      → (ps : List Term) → AreProducts k rest ps → AreProducts k all (now ++ ps)
   one_product out now p e fine is made ps a =
       subst (AreProducts k all) (sym (append_assoc out ((t.0, p) ∷ []) ps) ∙ ap (λ xs. xs ++ ps) (sym e))
       (made ((t.0, p) ∷ ps) (subst (λ xs. AreProducts k xs ((t.0, p) ∷ ps)) (sym at) (refl, fine, is, a)))

@@ -5,9 +5,9 @@ use Rattle.std.proofs.lemmas.List.{length-set}
 use Rattle.exact_numbers.specs.declared.frac.Frac.{Frac}
 use Rattle.exact_numbers.specs.Values.{frac_value}
 use Rattle.exact_numbers.proofs.Zeros.{zero_first, zero_second}
-use Rattle.fractions.specs.Fits.{sum_fits}
-use Rattle.fractions.specs.Rational.{ℚ, zero_ℚ, ◌+ℚ◌, ◌*ℚ◌}
-use Rattle.program_meaning.specs.Lines.{one_if}
+use Rattle.exact_numbers.specs.Fits.{sum_fits}
+use Rattle.exact_numbers.specs.Rational.{ℚ, zero_ℚ, ◌+ℚ◌, ◌*ℚ◌}
+use Rattle.linear_program.specs.Lines.{one_if}
 use Rattle.linear_program.specs.Coefs.{Term, found, coef_in, value_or_zero, AreAscending, AreBelow}
 use Rattle.linear_program.specs.Places.{place_in, put_all, AreZeros}
 use Rattle.linear_program.proofs.CoefLemmas.{found_same, found_apart, found_before, found_beyond, adds_at}

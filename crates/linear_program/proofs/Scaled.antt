@@ -1,15 +1,15 @@
 -- The steps over the terms of a form come to the sum with its multiple.
 use Rattle.std.proofs.Common.{◌≡◌, ◌≢◌, ℕ, zero, suc, ◌+◌, ◌<◌, ◌≤◌, ◌∙◌, sym, ap, ap₂, refl, subst, arith, Bool, true, false, ◌&&◌, Some, None, Result, Ok, Err, List, [], ◌∷◌, length, ⊎_elim}
 use Rattle.std.proofs.lemmas.Bool.{cases_eq, cases_lt, and_from, and_parts, false_from_ne_true}
-use Rattle.texts.specs.declared.stop.Stop.{Stop}
-use Rattle.texts.specs.declared.stop.Stop.TheVariants.{Fault, Memory}
+use Rattle.text_base.specs.declared.stop.Stop.{Stop}
+use Rattle.text_base.specs.declared.stop.Stop.TheVariants.{Fault, Memory}
 use Rattle.exact_numbers.specs.declared.frac.Frac.{Frac}
 use Rattle.exact_numbers.specs.Values.{frac_value}
-use Rattle.fractions.specs.Fits.{fits, sum_fits}
-use Rattle.fractions.specs.Rational.{ℚ, whole, zero_ℚ, ◌+ℚ◌, ◌*ℚ◌}
-use Rattle.fractions.proofs.Arithmetic.{*ℚ_one, *ℚ_zero, +ℚ_zero}
-use Rattle.program_meaning.specs.Lines.{line_sum, line_scaled, line_with, Line, all_below, is_zero, is_constant}
-use Rattle.program_meaning.proofs.LineLemmas.{same-eqb, apart-eqb, all_below-true, is_zero-true}
+use Rattle.exact_numbers.specs.Fits.{fits, sum_fits}
+use Rattle.exact_numbers.specs.Rational.{ℚ, whole, zero_ℚ, ◌+ℚ◌, ◌*ℚ◌}
+use Rattle.exact_numbers.proofs.RationalLaws.{*ℚ_one, *ℚ_zero, +ℚ_zero}
+use Rattle.linear_program.specs.Lines.{line_sum, line_scaled, line_with, Line, all_below, is_zero, is_constant}
+use Rattle.linear_program.proofs.LineLemmas.{same-eqb, apart-eqb, all_below-true, is_zero-true}
 use Rattle.linear_program.specs.declared.too_wide.Wide.{Wide}
 use Rattle.linear_program.specs.Coefs.{Term, found, value_or_zero, coef_in, AreAscending, AreBelow}
 use Rattle.linear_program.specs.Forms.{IsZeroFrom, ScaledSumFits, stepped, step_fits, adds_fit, with_scaled, SumsUp, AddsScaled}
@@ -30,7 +30,8 @@ ascending_apart n [] a = tt
 ascending_apart n (t ∷ ts) a = (found_before (suc t.0) ts t.0 a.2 (omega arith), ascending_apart (suc t.0) ts a.2)
 
 stepped_same : (a : Line) (k : ℚ) (t : Term) (j : ℕ) → j ≡ t.0 → (stepped a k t).coef j ≡ a.coef j +ℚ k *ℚ frac_value t.1
-stepped_same a k t j e = subst (λ i. (stepped a k t).coef i ≡ a.coef i +ℚ k *ℚ frac_value t.1) (sym e) (ap (λ x. a.coef t.0 +ℚ x) (ap (λ x. k *ℚ frac_value t.1 *ℚ x) (same-eqb t.0) ∙ *ℚ_one (k *ℚ frac_value t.1)))
+stepped_same a k t j e = subst (λ i. (stepped a k t).coef i ≡ a.coef i +ℚ k *ℚ frac_value t.1) (sym e)
+    (ap (λ x. a.coef t.0 +ℚ x) (ap (λ x. k *ℚ frac_value t.1 *ℚ x) (same-eqb t.0) ∙ *ℚ_one (k *ℚ frac_value t.1)))
 
 stepped_apart : (a : Line) (k : ℚ) (t : Term) (j : ℕ) → j ≢ t.0 → (stepped a k t).coef j ≡ a.coef j
 stepped_apart a k t j n = ap (λ x. a.coef j +ℚ x) (ap (λ x. k *ℚ frac_value t.1 *ℚ x) (apart-eqb j t.0 n) ∙ *ℚ_zero (k *ℚ frac_value t.1)) ∙ +ℚ_zero (a.coef j)
@@ -54,7 +55,9 @@ one_fits a k (t ∷ ts) j small e =
     (cases_eq j t.0)
 
 -- and the steps fit where each coefficient of a term does
-steps_fit : (a : Line) (k : ℚ) (ts : List Term) → AreApart ts → ((j : ℕ) (f : Frac) → found ts j ≡ Some f → (fits (k *ℚ frac_value f) ≡ true) × (sum_fits (a.coef j) (k *ℚ frac_value f) ≡ true)) → adds_fit a k ts ≡ true
+steps_fit : (a : Line) (k : ℚ) (ts : List Term) → AreApart ts
+    → ((j : ℕ) (f : Frac) → found ts j ≡ Some f → (fits (k *ℚ frac_value f) ≡ true)
+    × (sum_fits (a.coef j) (k *ℚ frac_value f) ≡ true)) → adds_fit a k ts ≡ true
 steps_fit a k [] apart h = refl
 steps_fit a k (t ∷ ts) apart h =
     let here = h t.0 t.1 (found_same t ts t.0 refl) in
@@ -83,7 +86,10 @@ constant_of_steps a k (t ∷ ts) = constant_of_steps (stepped a k t) k ts
 
 -- ---- a multiple of a form
 module _ (a b : Line) (sum k : ℚ) (ts : List Term) (small : (j : ℕ) → fits (a.coef j) ≡ true) (ascending : AreAscending 0 ts) (is : (j : ℕ) → b.coef j ≡ coef_in ts j) where
-  scaled_done : fits (k *ℚ b.constant) ≡ true → sum_fits a.constant (k *ℚ b.constant) ≡ true → sum ≡ a.constant +ℚ k *ℚ b.constant → (l : Line) → (adds_fit (record { constant = sum; coef = a.coef }) k ts ≡ true) × (l ≡ with_scaled (record { constant = sum; coef = a.coef }) k ts) → ScaledSumFits a k b × (l ≡ line_sum a (line_scaled k b))
+  scaled_done : fits (k *ℚ b.constant) ≡ true → sum_fits a.constant (k *ℚ b.constant) ≡ true
+      → sum ≡ a.constant +ℚ k *ℚ b.constant → (l : Line) → (adds_fit (record { constant = sum; coef = a.coef }) k ts
+      ≡ true) × (l ≡ with_scaled (record { constant = sum; coef = a.coef }) k ts)
+      → ScaledSumFits a k b × (l ≡ line_sum a (line_scaled k b))
   scaled_done p s e l h = (
     record {
       product = p;
@@ -91,7 +97,9 @@ module _ (a b : Line) (sum k : ℚ) (ts : List Term) (small : (j : ℕ) → fits
       products = λ j. ap (λ x. fits (k *ℚ x)) (is j) ∙ (one_fits (record { constant = sum; coef = a.coef }) k ts j (small j) h.0).0;
       sums = λ j. ap (λ x. sum_fits (a.coef j) (k *ℚ x)) (is j) ∙ (one_fits (record { constant = sum; coef = a.coef }) k ts j (small j) h.0).1;
     },
-    h.1 ∙ same_line _ _ (constant_of_steps (record { constant = sum; coef = a.coef }) k ts ∙ e) (λ j. coef_of_steps (record { constant = sum; coef = a.coef }) k ts (ascending_apart 0 ts ascending) j ∙ ap (λ x. a.coef j +ℚ k *ℚ x) (sym (is j))),
+    h.1 ∙ same_line _ _ (constant_of_steps (record { constant = sum; coef = a.coef }) k ts ∙ e)
+        (λ j. coef_of_steps (record { constant = sum; coef = a.coef }) k ts (ascending_apart 0 ts ascending) j
+        ∙ ap (λ x. a.coef j +ℚ k *ℚ x) (sym (is j))),
   )
 
   scaled_wide : adds_fit (record { constant = sum; coef = a.coef }) k ts ≡ false → ScaledSumFits a k b → ⊥
@@ -103,20 +111,27 @@ module _ (a b : Line) (sum k : ℚ) (ts : List Term) (small : (j : ℕ) → fits
       let clash : true ≡ false = sym good ∙ e in
       cc
 
-  pub scaled_parts : fits (k *ℚ b.constant) ≡ true → sum_fits a.constant (k *ℚ b.constant) ≡ true → sum ≡ a.constant +ℚ k *ℚ b.constant → (l : Line) (r : Result (Unit {0}) (Stop Wide)) → SumsUp (record { constant = sum; coef = a.coef }) k ts l r → AddsScaled a k b l r
+  pub scaled_parts : fits (k *ℚ b.constant) ≡ true → sum_fits a.constant (k *ℚ b.constant) ≡ true
+      → sum ≡ a.constant +ℚ k *ℚ b.constant → (l : Line) (r : Result (Unit {0}) (Stop Wide))
+      → SumsUp (record { constant = sum; coef = a.coef }) k ts l r → AddsScaled a k b l r
   scaled_parts p s e l (Ok u) h = scaled_done p s e l h
   scaled_parts p s e l (Err (Fault w)) h = scaled_wide h
   scaled_parts p s e l (Err Memory) h = tt
 
 -- ---- a form after one term
-pub term_added : (a new : Line) (k : ℚ) (t : Term) (scaled : ℚ) → scaled ≡ k *ℚ frac_value t.1 → fits (k *ℚ frac_value t.1) ≡ true → new.constant ≡ a.constant → (sum_fits (a.coef t.0) scaled ≡ true) × ((i : ℕ) → new.coef i ≡ (line_with a t.0 scaled).coef i) → (step_fits a k t ≡ true) × (new ≡ stepped a k t)
+pub term_added : (a new : Line) (k : ℚ) (t : Term) (scaled : ℚ) → scaled ≡ k *ℚ frac_value t.1
+    → fits (k *ℚ frac_value t.1) ≡ true → new.constant ≡ a.constant
+    → (sum_fits (a.coef t.0) scaled ≡ true) × ((i : ℕ) → new.coef i ≡ (line_with a t.0 scaled).coef i)
+    → (step_fits a k t ≡ true) × (new ≡ stepped a k t)
 term_added a new k t scaled is small constant h = (
   and_from _ _ small (ap (sum_fits (a.coef t.0)) (sym is) ∙ h.0),
   same_line _ _ constant (λ i. h.1 i ∙ ap (λ x. (line_with a t.0 x).coef i) is),
 )
 
 -- and the terms that are left
-pub steps_left : (a new : Line) (k : ℚ) (t : Term) (rest left : List Term) → left ≡ t ∷ rest → (step_fits a k t ≡ true) × (new ≡ stepped a k t) → (adds_fit new k rest ≡ adds_fit a k left) × (with_scaled new k rest ≡ with_scaled a k left)
+pub steps_left : (a new : Line) (k : ℚ) (t : Term) (rest left : List Term) → left ≡ t ∷ rest
+    → (step_fits a k t ≡ true) × (new ≡ stepped a k t) → (adds_fit new k rest ≡ adds_fit a k left)
+    × (with_scaled new k rest ≡ with_scaled a k left)
 steps_left a new k t rest left at h = (
   ap (λ l. adds_fit l k rest) h.1 ∙ ap (λ b. b && adds_fit (stepped a k t) k rest) (sym h.0) ∙ ap (adds_fit a k) (sym at),
   ap (λ l. with_scaled l k rest) h.1 ∙ ap (with_scaled a k) (sym at),
@@ -147,7 +162,9 @@ is_zero_zero : is_zero zero_ℚ ≡ true
 unfolding whole
 is_zero_zero = refl
 
-pub constant_test : (c : ℚ) (ts : List Term) → AreAscending 0 ts → (n : ℕ) → IsZeroFrom n (record { constant = c; coef = coef_in ts }) → is_nil ts ≡ is_constant n (record { constant = c; coef = coef_in ts })
+pub constant_test : (c : ℚ) (ts : List Term) → AreAscending 0 ts → (n : ℕ)
+    → IsZeroFrom n (record { constant = c; coef = coef_in ts })
+    → is_nil ts ≡ is_constant n (record { constant = c; coef = coef_in ts })
 constant_test c [] a n z = sym (all_below-intro (λ j. is_zero zero_ℚ) n (λ j h. is_zero_zero))
 constant_test c (t ∷ ts) a n z =
     let there : coef_in (t ∷ ts) t.0 ≡ frac_value t.1 = ap value_or_zero (found_same t ts t.0 refl) in

@@ -5,11 +5,11 @@ use Rattle.exact_numbers.specs.declared.dec.Dec.{Dec}
 use Rattle.exact_numbers.specs.declared.frac.Frac.{Frac}
 use Rattle.exact_numbers.specs.SpelledLemmas.{fitted}
 use Rattle.exact_numbers.specs.Values.{dec_value}
-use Rattle.fractions.specs.Fits.{fits}
-use Rattle.fractions.specs.LowestLemmas.{one_above, one_coprime}
-use Rattle.fractions.specs.Rational.{ℚ, zero_ℚ}
+use Rattle.exact_numbers.specs.Fits.{fits}
+use Rattle.exact_numbers.specs.LowestLemmas.{one_above, one_coprime}
+use Rattle.exact_numbers.specs.Rational.{ℚ, zero_ℚ}
 use Rattle.linear_program.specs.Coefs.{Term}
-use Rattle.fractions.specs.Sums.{sum_over}
+use Rattle.exact_numbers.specs.Sums.{sum_over}
 
 -- a variable and its coefficient as a decimal
 abbrev pub DecimalTerm : Type 0

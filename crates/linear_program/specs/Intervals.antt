@@ -1,11 +1,11 @@
 -- Sides and kinds as data: what they mean, and which sides are in order.
 use Rattle.std.specs.Prelude.{Bool, false, Option, Some, None, true}
-use Rattle.fractions.specs.Rational.{◌≤ℚ◌}
+use Rattle.exact_numbers.specs.Rational.{◌≤ℚ◌}
 use Rattle.exact_numbers.specs.Values.{dec_value}
 use Rattle.exact_numbers.specs.declared.dec.Dec.{Dec}
 use Rattle.linear_program.specs.declared.interval.Interval.{Interval as Sides}
 use Rattle.std.specs.Option.{option_map}
-use Rattle.program_meaning.specs.Linear.{Interval, has_side}
+use Rattle.linear_program.specs.Linear.{Interval, has_side}
 use Rattle.linear_program.specs.declared.kind.Kind.{Kind}
 use Rattle.linear_program.specs.declared.kind.Kind.TheVariants.{Continuous, Binary, Integer}
 

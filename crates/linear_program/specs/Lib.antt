@@ -1,3 +1,7 @@
+pub mod Linear
+pub mod Names
+pub mod Elements
+pub mod Lines
 pub mod Coefs
 pub mod Decimals
 pub mod Fews
@@ -7,3 +11,6 @@ pub mod Numbers
 pub mod Places
 pub mod Programs
 pub mod InsideTermLists
+pub mod InsideBuckets
+pub mod InsidePart
+pub mod Parts

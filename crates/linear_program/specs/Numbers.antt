@@ -1,7 +1,7 @@
 -- Numbers as they are written, and lists of them by index.
 use Rattle.std.specs.Prelude.{◌≡◌, ℕ, ◌==◌, List, [], ◌∷◌, get_or, if◌then◌else◌}
-use Rattle.fractions.specs.Rational.{ℚ, zero_ℚ}
-use Rattle.program_meaning.specs.Elements.{elements_from}
+use Rattle.exact_numbers.specs.Rational.{ℚ, zero_ℚ}
+use Rattle.linear_program.specs.Elements.{elements_from}
 use Rattle.exact_numbers.specs.Values.{dec_value, frac_value}
 use Rattle.linear_program.specs.Coefs.{Term}
 use Rattle.linear_program.specs.declared.number.Number.{Number}

@@ -2,12 +2,12 @@
 -- kinds; and the linear program that it is.
 use Rattle.std.specs.Prelude.{◌≡◌, ℕ, suc, ◌+◌, ◌≤◌, ◌^◌, Bool, List, [], ◌∷◌, length, All}
 use Rattle.std.specs.List.{sum_by}
-use Rattle.program_meaning.specs.Linear.{Form as LinearForm, Row, Variable, Linear}
-use Rattle.program_meaning.specs.Names.{row_name, variable_name}
+use Rattle.linear_program.specs.Linear.{Form as LinearForm, Row, Variable, Linear}
+use Rattle.linear_program.specs.Names.{row_name, variable_name}
 use Rattle.linear_program.specs.declared.interval.Interval.{Interval}
 use Rattle.linear_program.specs.declared.kind.Kind.{Kind}
 use Rattle.linear_program.specs.Intervals.{IsOrdered, interval_of, is_whole_kind}
-use Rattle.program_meaning.specs.Lines.{form_of_line}
+use Rattle.linear_program.specs.Lines.{form_of_line}
 use Rattle.linear_program.specs.declared.form.Form.{Form}
 use Rattle.linear_program.specs.declared.linear.LinearParts.{LinearParts}
 use Rattle.linear_program.specs.Coefs.{AreBelow}

@@ -1,7 +1,7 @@
 // A sparse accumulator: the coefficients of a sum, each at the place of its variable.
 ghost use Rattle.std.specs.Prelude.{◌≡◌, ◌≢◌, ◌<◌, ℕ, [], length, IfOk, OnErr, OnOk, true};
 ghost use Rattle.exact_numbers.specs.Values.{frac_value};
-ghost use Rattle.fractions.specs.Rational.{zero_ℚ};
+ghost use Rattle.exact_numbers.specs.Rational.{zero_ℚ};
 ghost use Rattle.linear_program.specs.Coefs.{AddsAt, AreAscending, AreBelow, coef_in};
 ghost use Rattle.linear_program.specs.Forms.{terms_left};
 ghost use Rattle.linear_program.specs.Places.{AreZeros, all_places, place_in, put_all, terms_from};
@@ -14,7 +14,7 @@ use crate::too_wide::Wide;
 use exact_numbers::Frac;
 use std::alloc::{AllocError, Global};
 use std::marker::Model;
-use texts::Stop;
+use text_base::Stop;
 
 /// A place for each variable, and terms that are not yet put at theirs: while the variables that
 /// are added ascend, their terms are only listed. The places are made when the first term is put.

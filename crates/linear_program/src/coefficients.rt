@@ -1,7 +1,7 @@
 // The coefficients of a form: fractions, or decimals.
 ghost use Rattle.std.specs.Prelude.{◌≡◌, ◌≢◌, ◌∷◌, ◌<◌, ◌^◌, IfOk, IfSome, MatchResult, [], get_or, length};
 ghost use Rattle.exact_numbers.specs.Values.{frac_value};
-ghost use Rattle.fractions.specs.Rational.{zero_ℚ};
+ghost use Rattle.exact_numbers.specs.Rational.{zero_ℚ};
 ghost use Rattle.linear_program.specs.Coefs.{AreAscending, AreDecimalsOf};
 ghost use Rattle.linear_program.specs.Decimals.{AreDecimals, fraction_terms};
 ghost use Rattle.linear_program.specs.Forms.{terms_left};

@@ -1,9 +1,9 @@
 // Linear forms.
 ghost use Rattle.std.specs.Prelude.{◌≡◌, ◌+◌, ◌<◌, ◌≤◌, ◌^◌, ℕ, [], length, IfOk, IfErr, IfSome, MatchResult, OnErr, OnOk, ◌≢◌, false, true};
-ghost use Rattle.texts.specs.Stopped.{IfFault};
+ghost use Rattle.text_base.specs.Stopped.{IfFault};
 ghost use Rattle.exact_numbers.specs.Values.{frac_value};
-ghost use Rattle.fractions.specs.Rational.{zero_ℚ};
-ghost use Rattle.program_meaning.specs.Lines.{constant_line, is_constant};
+ghost use Rattle.exact_numbers.specs.Rational.{zero_ℚ};
+ghost use Rattle.linear_program.specs.Lines.{constant_line, is_constant};
 ghost use Rattle.linear_program.specs.Coefs.{AddsAt, AreAscending, AreDecimalsOf, AreProducts, HasWideProduct, coef_in};
 ghost use Rattle.linear_program.specs.Decimals.{AreDecimals, fraction_terms};
 ghost use Rattle.linear_program.specs.Forms.{AddsScaled, HasRoom, IsWithin, Multiplies, form_line, form_terms, is_open, pad_places, terms_left};
@@ -19,7 +19,7 @@ use crate::too_wide::Wide;
 use exact_numbers::{Dec, Frac};
 use std::alloc::{AllocError, Global};
 use std::mem::size_of;
-use texts::{Ledger, Steps, Stop};
+use text_base::{Ledger, Steps, Stop};
 
 // A form takes at most so many bytes: a linear program has a list of them.
 const MOST_BYTES: usize = 80;

@@ -1,7 +1,7 @@
 // Terms with fractions.
 ghost use Rattle.std.specs.Prelude.{◌≡◌, ◌≢◌, ◌∷◌, ◌++◌, ◌↔◌, IfOk, IsTrue, OnErr, OnOk, []};
 ghost use Rattle.exact_numbers.specs.Values.{frac_value};
-ghost use Rattle.fractions.specs.Rational.{zero_ℚ};
+ghost use Rattle.exact_numbers.specs.Rational.{zero_ℚ};
 ghost use Rattle.linear_program.specs.Coefs.{AreAscending, AreBelow};
 
 use exact_numbers::Frac;

@@ -1,7 +1,7 @@
 // Places for coefficients, of which those that may hold anything but 0 are known.
 ghost use Rattle.std.specs.Prelude.{◌≡◌, ◌+◌, ◌<◌, ◌∷◌, ◌==◌, ℕ, [], drop, length, replicate, slice_set, IfOk, IfSome, None, OnOk, true, false};
 ghost use Rattle.exact_numbers.specs.Values.{frac_value};
-ghost use Rattle.fractions.specs.Rational.{zero_ℚ};
+ghost use Rattle.exact_numbers.specs.Rational.{zero_ℚ};
 ghost use Rattle.linear_program.specs.Coefs.{AddsAt, AreBelow, coef_in};
 ghost use Rattle.linear_program.specs.Places.{AreZeros, place_in, put_all, terms_from};
 
@@ -11,7 +11,7 @@ use exact_numbers::Frac;
 use std::alloc::{AllocError, Global};
 use std::marker::Model;
 use std::mem;
-use texts::Stop;
+use text_base::Stop;
 
 /// A place for each variable, and the touched places: those that may hold anything but 0.
 #[derive(Drop)]

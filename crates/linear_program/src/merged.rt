@@ -1,10 +1,10 @@
 // A closed form and terms that are added to it, merged by variable.
 ghost use Rattle.std.specs.Prelude.{◌≡◌, ◌≢◌, ◌+◌, ◌≤◌, ◌++◌, ℕ, length, drop, suc, IfOk, IfErr, OnErr, OnOk, false};
-ghost use Rattle.texts.specs.Stopped.{IfFault};
+ghost use Rattle.text_base.specs.Stopped.{IfFault};
 ghost use Rattle.exact_numbers.specs.Values.{frac_value};
-ghost use Rattle.fractions.specs.Fits.{sum_fits};
-ghost use Rattle.fractions.specs.Rational.{ℚ, zero_ℚ};
-ghost use Rattle.program_meaning.specs.Lines.{constant_line};
+ghost use Rattle.exact_numbers.specs.Fits.{sum_fits};
+ghost use Rattle.exact_numbers.specs.Rational.{ℚ, zero_ℚ};
+ghost use Rattle.linear_program.specs.Lines.{constant_line};
 ghost use Rattle.linear_program.specs.Coefs.{AreAscending, AreBelow, IsAdded, coef_in};
 ghost use Rattle.linear_program.specs.Forms.{AddsScaled, AreSummedUp, IsScaledSum, ScaledSumFits, adds_fit, form_line, form_terms, parts_line, terms_left};
 
@@ -14,7 +14,7 @@ use crate::form_terms::FormTerms;
 use crate::too_wide::Wide;
 use exact_numbers::Frac;
 use std::alloc::AllocError;
-use texts::{Ledger, Steps, Stop};
+use text_base::{Ledger, Steps, Stop};
 
 // Puts the terms of a list from a place on whose variables are below another behind those that are
 // done; the place of the first that is left.

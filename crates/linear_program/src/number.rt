@@ -1,6 +1,6 @@
 // Numbers as they are written.
 ghost use Rattle.std.specs.Prelude.{◌≡◌, ◌↔◌, IsTrue};
-ghost use Rattle.fractions.specs.Rational.{zero_ℚ, ◌<ℚ◌};
+ghost use Rattle.exact_numbers.specs.Rational.{zero_ℚ, ◌<ℚ◌};
 ghost use Rattle.exact_numbers.specs.Values.{IsFracOf};
 ghost use Rattle.linear_program.specs.Numbers.{number_value};
 

@@ -1,8 +1,8 @@
 // Sums of linear forms.
 ghost use Rattle.std.specs.Prelude.{◌≡◌, ◌+◌, ◌<◌, ◌≤◌, IfOk, OnErr, OnOk, false, length};
 ghost use Rattle.exact_numbers.specs.Values.{frac_value};
-ghost use Rattle.fractions.specs.Rational.{zero_ℚ};
-ghost use Rattle.program_meaning.specs.Lines.{constant_line};
+ghost use Rattle.exact_numbers.specs.Rational.{zero_ℚ};
+ghost use Rattle.linear_program.specs.Lines.{constant_line};
 ghost use Rattle.linear_program.specs.Coefs.{AddsAt, AreAscending, AreBelow};
 ghost use Rattle.linear_program.specs.Forms.{AddsScaled, IsWithin, SumsUp, form_line, form_terms, is_open, place_count, sum_line, terms_left};
 ghost use Rattle.linear_program.specs.Places.{terms_from};
@@ -14,7 +14,7 @@ use crate::pad::Pad;
 use crate::too_wide::Wide;
 use exact_numbers::Frac;
 use std::alloc::{AllocError, Global};
-use texts::{Ledger, Steps, Stop};
+use text_base::{Ledger, Steps, Stop};
 
 /// What is added to: a constant, and a sparse accumulator of coefficients.
 #[derive(Drop)]

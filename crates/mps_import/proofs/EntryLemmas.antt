@@ -26,7 +26,8 @@ module _ (m : Mps Dec) where
     pub same : map entry_of es ≡ entries_at m j
     pub within : All (λ (e : Entry Dec). e.row < length m.rows) (map entry_of es)
 
-  pub entries_read : (j : ℕ) (cs : List (Column Dec)) (c : Column Dec) (es : List (ℕ × Dec)) → j < length m.columns → cs ≡ m.columns → c ≡ get_or cs j c → All (λ (x : Column Dec). AreEntries (length m.rows) x.entries) m.columns →
+  pub entries_read : (j : ℕ) (cs : List (Column Dec)) (c : Column Dec) (es : List (ℕ × Dec)) → j < length m.columns
+      → cs ≡ m.columns → c ≡ get_or cs j c → All (λ (x : Column Dec). AreEntries (length m.rows) x.entries) m.columns →
       map entry_of es ≡ c.entries → AreEntriesAt j es
   entries_read j cs c es inside columns is valid read =
       let column : c ≡ get_or m.columns j c = is ∙ ap (λ xs. get_or xs j c) columns in
@@ -43,7 +44,9 @@ module _ (m : Mps Dec) where
     pub way : IsOnItsWay m (entries_left m p (entry_of t ∷ rest) js) d
 
   pub next_entry : (j p : ℕ) (js : List ℕ) (es : List (ℕ × Dec)) (k : ℕ) (t : ℕ × Dec) (uses : List RowUse) (what : RowUse) (d : Draft) → AreEntriesAt j es → k < length es → t ≡ get_or es k t →
-      uses ≡ listed (use_of m.rows) (length m.rows) → what ≡ get_or uses t.0 Unused → IsOnItsWay m (entries_left m p (map entry_of (drop k es)) js) d → IsNextEntry p js (map entry_of (drop (k + 1) es)) t what d
+      uses ≡ listed (use_of m.rows) (length m.rows) → what ≡ get_or uses t.0 Unused
+      → IsOnItsWay m (entries_left m p (map entry_of (drop k es)) js) d
+      → IsNextEntry p js (map entry_of (drop (k + 1) es)) t what d
   next_entry j p js es k t uses what d read h is used found way =
       let lt : t.0 < length m.rows = entry_within es k t h is (length m.rows) read.within in
       record {

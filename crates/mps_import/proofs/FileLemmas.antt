@@ -1,13 +1,15 @@
 -- The file that is made of the parts of a program.
-use Rattle.std.proofs.Common.{◌≡◌, ℕ, suc, ◌+◌, ◌<◌, ◌≤◌, ◌^◌, ◌∙◌, sym, ap, ap₂, refl, subst, arith, Bool, false, nat_lt, ◌||◌, List, [], ◌∷◌, ◌++◌, length, get_or, map, Some, All, replicate, nat_eq, IsSome, slice_set, Result, Ok, Err, IfErr, IsErrAnd}
+use Rattle.std.proofs.Common.{◌≡◌, ℕ, suc, ◌+◌, ◌<◌, ◌≤◌, ◌^◌, ◌∙◌, sym, ap, ap₂, refl, subst, arith, Bool, false}
+use Rattle.std.proofs.Common.{nat_lt, ◌||◌, List, [], ◌∷◌, ◌++◌, length, get_or, map, Some, All, replicate, nat_eq}
+use Rattle.std.proofs.Common.{IsSome, slice_set, Result, Ok, Err, IfErr, IsErrAnd}
 use Rattle.std.proofs.lemmas.List.{length-map}
 use Rattle.std.specs.Option.{option_map}
-use Rattle.texts.specs.Stopped.{IfFault}
-use Rattle.texts.specs.declared.stop.Stop.{Stop}
-use Rattle.texts.specs.declared.stop.Stop.TheVariants.{Fault, Memory}
+use Rattle.text_base.specs.Stopped.{IfFault}
+use Rattle.text_base.specs.declared.stop.Stop.{Stop}
+use Rattle.text_base.specs.declared.stop.Stop.TheVariants.{Fault, Memory}
 use Rattle.exact_numbers.specs.declared.dec.Dec.{Dec}
 use Rattle.linear_program.specs.Intervals.{no_sides, IsOrdered}
-use Rattle.nl_meaning.specs.Trees.{Tree}
+use Rattle.nl_model.specs.Trees.{Tree}
 use Rattle.nl_model.specs.Draft.{Draft, empty_draft, file_of, is_given}
 use Rattle.nl_model.specs.Rules.{term_count}
 use Rattle.linear_program.specs.declared.interval.Interval.{Interval as Sides}
@@ -33,7 +35,9 @@ use Rattle.mps_import.proofs.PartLemmas.{wide_fault, clean_wide, not_empty, all_
 use Rattle.mps_import.proofs.TermLemmas.{hits_in_same, all_constraint_terms, all_objective_terms, constraint_at, objective_at}
 use Rattle.std.proofs.lemmas.List.Elements.{All-cons, All-nil}
 
-pub large_is : (m : Mps Dec) (r c : ℕ) (b : Bool) → r ≡ length (constraints m.rows) → c ≡ length m.columns → b ≡ nat_lt (2 ^ 20) r || nat_lt (2 ^ 20) c → nat_lt (2 ^ 20) (length (constraints m.rows)) || nat_lt (2 ^ 20) (length m.columns) ≡ b
+pub large_is : (m : Mps Dec) (r c : ℕ) (b : Bool) → r ≡ length (constraints m.rows) → c ≡ length m.columns
+    → b ≡ nat_lt (2 ^ 20) r || nat_lt (2 ^ 20) c → nat_lt (2 ^ 20) (length (constraints m.rows))
+    || nat_lt (2 ^ 20) (length m.columns) ≡ b
 large_is m r c b e f h = sym (h ∙ ap₂ (λ x y. nat_lt (2 ^ 20) x || nat_lt (2 ^ 20) y) e f)
 
 pub rank_all : (m : Mps Dec) → length (places (is_constraint m.rows) (length m.rows)) ≡ length (constraints m.rows)
@@ -45,7 +49,9 @@ module _ (m : Mps Dec) (uses : List RowUse) (order : List ℕ) (are : uses ≡ l
   terms_counted = hits_in_same (is_constraint_at uses) (is_constraint m.rows) (constraint_at m uses are) m order ∙ ap (hits_in (is_constraint m.rows) m) e ∙ all_constraint_terms m
 
   pub slopes_counted : objective_row m.rows < length m.rows → hits_in (is_objective_at uses) m order ≡ length (objective_terms m)
-  slopes_counted some = hits_in_same (is_objective_at uses) (λ i. nat_eq i (objective_row m.rows)) (objective_at m uses are some) m order ∙ ap (hits_in (λ i. nat_eq i (objective_row m.rows)) m) e ∙ all_objective_terms m
+  slopes_counted some = hits_in_same (is_objective_at uses) (λ i. nat_eq i (objective_row m.rows))
+      (objective_at m uses are some) m order ∙ ap (hits_in (λ i. nat_eq i (objective_row m.rows)) m) e
+      ∙ all_objective_terms m
 
 -- ---- the beginning
 module _ (m : Mps Dec) (d : Draft) (begun : d ≡ empty_draft import_options (import_counts m)) where
@@ -57,7 +63,9 @@ module _ (m : Mps Dec) (d : Draft) (begun : d ≡ empty_draft import_options (im
   unfolding import_counts
   none_given = subst (λ (x : Draft). is_given x.objectives 0 ≡ false) (sym begun) refl
 
-  pub begun_is : (n : Draft) (maximise : Bool) (tree : Tree) → n ≡ record d { objectives = slice_set d.objectives 0 (Some (record { maximise = maximise; tree = tree })) } → maximise ≡ m.maximise → tree ≡ number_tree (objective_constant m) → n ≡ begun_draft m
+  pub begun_is : (n : Draft) (maximise : Bool) (tree : Tree)
+      → n ≡ record d { objectives = slice_set d.objectives 0 (Some (record { maximise = maximise; tree = tree })) }
+      → maximise ≡ m.maximise → tree ≡ number_tree (objective_constant m) → n ≡ begun_draft m
   unfolding import_counts
   begun_is n maximise tree e sense number =
       e ∙ ap (λ (x : Draft). record x { objectives = slice_set x.objectives 0 (Some (record { maximise = maximise; tree = tree })) }) begun
@@ -148,6 +156,8 @@ stop_is : (m : Mps Dec) (stop : Stop MpsFault) → is_too_large m ≡ false → 
 stop_is m (Fault f) e h = wide_fault m f e h
 stop_is m Memory e h = tt
 
-pub wide_stop : {A : Type 0} (m : Mps Dec) (r : Result A (Stop MpsFault)) (stop : Stop MpsFault) → is_too_large m ≡ false → IfFault stop (λ f. option_map TooWide (first_wide m) ≡ Some f) → IsErrAnd r (λ y. y ≡ stop) → IfErr r (λ s. IfFault s (λ f. import_fault m ≡ Some f))
+pub wide_stop : {A : Type 0} (m : Mps Dec) (r : Result A (Stop MpsFault)) (stop : Stop MpsFault)
+    → is_too_large m ≡ false → IfFault stop (λ f. option_map TooWide (first_wide m) ≡ Some f) → IsErrAnd r (λ y. y ≡ stop)
+    → IfErr r (λ s. IfFault s (λ f. import_fault m ≡ Some f))
 wide_stop m (Ok x) stop e h i = tt
 wide_stop m (Err y) stop e h i = subst (λ s. IfFault s (λ f. import_fault m ≡ Some f)) (sym i) (stop_is m stop e h)

@@ -1,5 +1,7 @@
 -- What the parts of a program are, and which fault it has.
-use Rattle.std.proofs.Common.{◌≡◌, ℕ, suc, ◌+◌, ◌<◌, ◌≤◌, ◌^◌, ◌∙◌, sym, ap, ap₂, refl, arith, Bool, true, false, cond, not, nat_eq, nat_lt, ◌&&◌, ◌||◌, if◌then◌else◌, List, [], ◌∷◌, ◌++◌, length, get_or, map, drop, Option, Some, None, All}
+use Rattle.std.proofs.Common.{◌≡◌, ℕ, suc, ◌+◌, ◌<◌, ◌≤◌, ◌^◌, ◌∙◌, sym, ap, ap₂, refl, arith, Bool, true, false, cond}
+use Rattle.std.proofs.Common.{not, nat_eq, nat_lt, ◌&&◌, ◌||◌, if◌then◌else◌, List, [], ◌∷◌, ◌++◌, length, get_or, map}
+use Rattle.std.proofs.Common.{drop, Option, Some, None, All}
 use Rattle.std.proofs.lemmas.Bool.{lt-ltb, le-ltb, ltb-false, or_parts, le-leb}
 use Rattle.std.proofs.lemmas.List.{length-map}
 use Rattle.std.proofs.lemmas.List.Sums.{count_by-le-length, sum_by-cons}
@@ -8,12 +10,12 @@ use Rattle.std.specs.Option.{option_map, option_or}
 use Rattle.std.specs.Ordering.{is_eq, is_ne}
 use Rattle.std.specs.declared.cmp.Ordering.{Ordering}
 use Rattle.std.specs.declared.cmp.Ordering.TheVariants.{Less, Equal, Greater}
-use Rattle.fractions.specs.Rational.{ℚ}
-use Rattle.program_meaning.specs.Linear.{Interval}
+use Rattle.exact_numbers.specs.Rational.{ℚ}
+use Rattle.linear_program.specs.Linear.{Interval}
 use Rattle.exact_numbers.specs.declared.dec.Dec.{Dec}
 use Rattle.exact_numbers.specs.Values.{dec_value, mantissa_of, exponent_of}
 use Rattle.exact_numbers.proofs.Spelling.{decimal_of-decimal}
-use Rattle.nl_meaning.specs.Trees.{number}
+use Rattle.nl_model.specs.Trees.{number}
 use Rattle.nl_model.specs.Draft.{Draft}
 use Rattle.nl_model.specs.HeaderRules.{is_header}
 use Rattle.nl_model.specs.Rules.{term_count}
@@ -64,7 +66,10 @@ module _ (es : List (ℕ × Dec)) (k : ℕ) (t : ℕ × Dec) (lt : k < length es
   hit_step test = ap (λ ts. hits test (map entry_of ts)) (drop_is es k t lt is) ∙ sum_by-cons (λ e. one_if (is_hit test e)) (entry_of t) (map entry_of (drop (k + 1) es))
 
   -- the count with one entry more, of what the rows are
-  pub count_step : (what : RowUse → Bool) (uses : List RowUse) (u : RowUse) (z : Bool) (before after : ℕ) → t.0 < length uses → u ≡ get_or uses t.0 Unused → z ≡ is_zero_dec t.1 → after ≡ before + one_if (what u && not z) → after + hits (λ i. what (get_or uses i Unused)) (map entry_of (drop (k + 1) es)) ≡ before + hits (λ i. what (get_or uses i Unused)) (map entry_of (drop k es))
+  pub count_step : (what : RowUse → Bool) (uses : List RowUse) (u : RowUse) (z : Bool) (before after : ℕ)
+      → t.0 < length uses → u ≡ get_or uses t.0 Unused → z ≡ is_zero_dec t.1 → after ≡ before + one_if (what u && not z)
+      → after + hits (λ i. what (get_or uses i Unused)) (map entry_of (drop (k + 1) es))
+      ≡ before + hits (λ i. what (get_or uses i Unused)) (map entry_of (drop k es))
   count_step what uses u z before after within read none h =
       omega (arith, h, hit_step (λ i. what (get_or uses i Unused)), ap₂ (λ v y. one_if (what v && not y)) read none)
 
@@ -82,7 +87,9 @@ pub still_only : (a b c : Draft) → b ≡ record a { terms = b.terms; slopes = 
 still_only a b c e f = f ∙ ap (λ (x : Draft). record x { terms = c.terms; slopes = c.slopes }) e
 
 -- ---- rows
-pub use_is : (rows : List MpsRow) (i : ℕ) (b o : Bool) (n : ℕ) (u : RowUse) → u ≡ cond b (Constraint n) (cond o Objective Unused) → b ≡ is_constraint rows i → n ≡ rank rows i → o ≡ nat_eq i (objective_row rows) → u ≡ use_of rows i
+pub use_is : (rows : List MpsRow) (i : ℕ) (b o : Bool) (n : ℕ) (u : RowUse)
+    → u ≡ cond b (Constraint n) (cond o Objective Unused) → b ≡ is_constraint rows i → n ≡ rank rows i
+    → o ≡ nat_eq i (objective_row rows) → u ≡ use_of rows i
 use_is rows i b o n u h e g f = h ∙ (λ p. cond (e p) (Constraint (g p)) (cond (f p) Objective Unused))
 
 -- ---- kinds
@@ -142,11 +149,13 @@ module _ (m : Mps Dec) where
   unfolding is_too_large
   large_places e = ap (λ b. b || nat_lt (2 ^ 22) (term_count (constraint_terms m) + length (objective_terms m))) e
 
-  pub large_terms : nat_lt (2 ^ 20) (length (constraints m.rows)) || nat_lt (2 ^ 20) (length m.columns) ≡ false → 2 ^ 22 < term_count (constraint_terms m) + length (objective_terms m) → is_too_large m ≡ true
+  pub large_terms : nat_lt (2 ^ 20) (length (constraints m.rows)) || nat_lt (2 ^ 20) (length m.columns) ≡ false
+      → 2 ^ 22 < term_count (constraint_terms m) + length (objective_terms m) → is_too_large m ≡ true
   unfolding is_too_large
   large_terms e h = ap₂ (λ a b. a || b) e (lt-ltb (2 ^ 22) (term_count (constraint_terms m) + length (objective_terms m)) h)
 
-  pub not_large : nat_lt (2 ^ 20) (length (constraints m.rows)) || nat_lt (2 ^ 20) (length m.columns) ≡ false → term_count (constraint_terms m) + length (objective_terms m) ≤ 2 ^ 22 → is_too_large m ≡ false
+  pub not_large : nat_lt (2 ^ 20) (length (constraints m.rows)) || nat_lt (2 ^ 20) (length m.columns) ≡ false
+      → term_count (constraint_terms m) + length (objective_terms m) ≤ 2 ^ 22 → is_too_large m ≡ false
   unfolding is_too_large
   not_large e h = ap₂ (λ a b. a || b) e (le-ltb (2 ^ 22) (term_count (constraint_terms m) + length (objective_terms m)) h)
 
@@ -173,7 +182,8 @@ module _ (m : Mps Dec) where
 
     both_few : (nat_lt (2 ^ 20) (length (constraints m.rows)) ≡ false) × (nat_lt (2 ^ 20) (length m.columns) ≡ false)
     unfolding is_too_large
-    both_few = or_parts (nat_lt (2 ^ 20) (length (constraints m.rows))) (nat_lt (2 ^ 20) (length m.columns)) (or_parts (nat_lt (2 ^ 20) (length (constraints m.rows)) || nat_lt (2 ^ 20) (length m.columns)) _ clean_large).0
+    both_few = or_parts (nat_lt (2 ^ 20) (length (constraints m.rows))) (nat_lt (2 ^ 20) (length m.columns))
+        (or_parts (nat_lt (2 ^ 20) (length (constraints m.rows)) || nat_lt (2 ^ 20) (length m.columns)) _ clean_large).0
 
     pub few_constraints : length (constraints m.rows) ≤ 2 ^ 20
     few_constraints = ltb-false (2 ^ 20) (length (constraints m.rows)) both_few.0
@@ -221,17 +231,24 @@ module _ (m : Mps Dec) (p : Parts) (are : ArePartsOf m p) where
   pub sides_count : length p.sides.items ≡ length (constraints m.rows)
   sides_count = ap length are.sides ∙ length-map (constraints m.rows) (λ i. sides_from (row_interval (values_of m) i))
 
-  pub counts_are : counts_with (length m.columns) (length p.sides.items) (count_by (side_test false) p.sides.items) (count_by (side_test true) p.sides.items) p.variables.binary p.variables.integer p.count.constraints p.count.objective ≡ import_counts m
+  pub counts_are : counts_with (length m.columns) (length p.sides.items) (count_by (side_test false) p.sides.items)
+      (count_by (side_test true) p.sides.items) p.variables.binary p.variables.integer p.count.constraints
+      p.count.objective ≡ import_counts m
   unfolding import_counts
   counts_are = λ q. counts_with (length m.columns) (sides_count q) (counted_sides false q) (counted_sides true q) (are.binary q) (are.integer q) (are.terms q) (are.slopes q)
 
   whole_few : p.variables.binary + p.variables.integer ≤ length m.columns
   whole_few = omega (arith, are.binary, are.integer, parts_length (is_whole m) (is_zero_to_one m) (length m.columns))
 
-  pub header_there : is_header import_options (counts_with (length m.columns) (length p.sides.items) (count_by (side_test false) p.sides.items) (count_by (side_test true) p.sides.items) p.variables.binary p.variables.integer p.count.constraints p.count.objective) ≡ true
+  pub header_there : is_header import_options (counts_with (length m.columns) (length p.sides.items)
+      (count_by (side_test false) p.sides.items) (count_by (side_test true) p.sides.items) p.variables.binary
+      p.variables.integer p.count.constraints p.count.objective) ≡ true
   header_there =
-      header_fits (length m.columns) (length p.sides.items) (count_by (side_test false) p.sides.items) (count_by (side_test true) p.sides.items) p.variables.binary p.variables.integer p.count.constraints p.count.objective
-      (few_columns m are.clean) sides_few (omega (arith, sides_few, count_by-le-length (side_test false) p.sides.items)) (omega (arith, sides_few, count_by-le-length (side_test true) p.sides.items)) whole_few
+      header_fits (length m.columns) (length p.sides.items) (count_by (side_test false) p.sides.items)
+      (count_by (side_test true) p.sides.items) p.variables.binary p.variables.integer p.count.constraints
+      p.count.objective
+      (few_columns m are.clean) sides_few (omega (arith, sides_few, count_by-le-length (side_test false) p.sides.items))
+      (omega (arith, sides_few, count_by-le-length (side_test true) p.sides.items)) whole_few
       (omega (arith, are.terms, are.slopes, few_terms m (clean_large m are.clean)))
     where
       sides_few : length p.sides.items ≤ 2 ^ 20

@@ -1,5 +1,7 @@
 -- The terms of the constraints and of the objective: how many there are, and those that are still to come.
-use Rattle.std.proofs.Common.{◌≡◌, ℕ, zero, suc, ◌+◌, ◌<◌, ◌≤◌, ◌^◌, ◌∙◌, sym, ap, ap₂, refl, subst, arith, Bool, true, false, cond, not, nat_eq, nat_lt, ◌&&◌, ◌||◌, if◌then◌else◌, List, [], ◌∷◌, ◌++◌, length, get_or, map, drop, set, replicate, Some, None, ⊎_elim, add-one, append_assoc, append-nil}
+use Rattle.std.proofs.Common.{◌≡◌, ℕ, zero, suc, ◌+◌, ◌<◌, ◌≤◌, ◌^◌, ◌∙◌, sym, ap, ap₂, refl, subst, arith, Bool, true}
+use Rattle.std.proofs.Common.{false, cond, not, nat_eq, nat_lt, ◌&&◌, ◌||◌, if◌then◌else◌, List, [], ◌∷◌, ◌++◌, length}
+use Rattle.std.proofs.Common.{get_or, map, drop, set, replicate, Some, None, ⊎_elim, add-one, append_assoc, append-nil}
 use Rattle.std.proofs.lemmas.Bool.{cases_lt, eqb-true, eq-eqb, ne_eqb, ltb-false, or_parts}
 use Rattle.std.proofs.lemmas.List.{length-append, length-map, length-set, get_or-map, get_or-set_same, get_or-set_other, get_or-replicate, get_or_past, ext_get_or, length-replicate}
 use Rattle.std.proofs.lemmas.List.Sums.{sum_by-cons}
@@ -16,7 +18,9 @@ use Rattle.mps_program.specs.Program.{is_constraint, constraints}
 use Rattle.mps_program.specs.Terms.{is_zero_dec, term_of}
 use Rattle.mps_import.specs.Import.{entries_at, terms_from, row_terms, constraint_terms, objective_terms, import_counts}
 use Rattle.mps_program.specs.Places.{listed, one_if}
-use Rattle.mps_import.specs.InsideUses.{rank, use_of, is_hit, hits, hits_in, is_constraint_use, is_objective_use, is_constraint_at, is_objective_at, terms_left, entries_left, IsOnItsWay, CanAddTerm, with_term}
+use Rattle.mps_import.specs.InsideUses.{rank, use_of, is_hit, hits, hits_in, is_constraint_use, is_objective_use}
+use Rattle.mps_import.specs.InsideUses.{is_constraint_at, is_objective_at, terms_left, entries_left, IsOnItsWay}
+use Rattle.mps_import.specs.InsideUses.{CanAddTerm, with_term}
 use Rattle.mps_import.specs.Variables.{order_of_columns}
 use Rattle.mps_program.proofs.FirstLemmas.{listed_at, listed_length, place_at, before_at, before_end}
 use Rattle.mps_program.proofs.OnceLemmas.{sum_more, sum_none, term_more, past_rows, once_or_not}
@@ -43,7 +47,10 @@ module _ (m : Mps Dec) where
   column_count : (p : ℕ) (es : List (Entry Dec)) → sum_by (λ i. length (filter_map (term_of i p) es)) (constraints m.rows) ≡ hits test es
   column_count p [] = sum_none (λ i. 0) (λ i. refl) (constraints m.rows)
   column_count p (e ∷ es) =
-      sum_more (λ i. length (filter_map (term_of i p) (e ∷ es))) (λ i. one_if (nat_eq e.row i && not (is_zero_dec e.value))) (λ i. length (filter_map (term_of i p) es)) (λ i. term_more (p, e.value) (nat_eq e.row i && not (is_zero_dec e.value)) (filter_map (term_of i p) es)) (constraints m.rows)
+      sum_more (λ i. length (filter_map (term_of i p) (e ∷ es)))
+      (λ i. one_if (nat_eq e.row i && not (is_zero_dec e.value))) (λ i. length (filter_map (term_of i p) es))
+      (λ i. term_more (p, e.value) (nat_eq e.row i && not (is_zero_dec e.value)) (filter_map (term_of i p) es))
+      (constraints m.rows)
       ∙ ap₂ ◌+◌ (once_or_not m.rows e.row (not (is_zero_dec e.value))) (column_count p es)
       ∙ sym (sum_by-cons (λ e. one_if (is_hit test e)) e es)
 
@@ -51,7 +58,9 @@ module _ (m : Mps Dec) where
   unfolding terms_from
   columns_count p [] = sum_none (λ i. 0) (λ i. refl) (constraints m.rows)
   columns_count p (j ∷ js) =
-      sum_more (λ i. length (terms_from m i p (j ∷ js))) (λ i. length (filter_map (term_of i p) (entries_at m j))) (λ i. length (terms_from m i (suc p) js)) (λ i. length-append (filter_map (term_of i p) (entries_at m j)) (terms_from m i (suc p) js)) (constraints m.rows)
+      sum_more (λ i. length (terms_from m i p (j ∷ js))) (λ i. length (filter_map (term_of i p) (entries_at m j)))
+      (λ i. length (terms_from m i (suc p) js)) (λ i. length-append (filter_map (term_of i p) (entries_at m j))
+      (terms_from m i (suc p) js)) (constraints m.rows)
       ∙ ap₂ ◌+◌ (column_count p (entries_at m j)) (columns_count (suc p) js)
       ∙ sym (sum_by-cons (λ j. hits test (entries_at m j)) j js)
 
@@ -161,7 +170,8 @@ module _ (m : Mps Dec) where
     terms : (c : ℕ) → c < length (constraints m.rows) → get_or n.terms c [] ≡ added (nat_eq r (row c)) t (get_or d.terms c [])
     slopes : get_or n.slopes 0 [] ≡ added (nat_eq r obj) t (get_or d.slopes 0 [])
 
-  with_constraint : (d : Draft) (r p : ℕ) (v : Dec) → test r ≡ true → r < length m.rows → length d.terms ≡ length (constraints m.rows) → IsWith d (with_term (Constraint (rank m.rows r)) p v d) r (p, v)
+  with_constraint : (d : Draft) (r p : ℕ) (v : Dec) → test r ≡ true → r < length m.rows
+      → length d.terms ≡ length (constraints m.rows) → IsWith d (with_term (Constraint (rank m.rows r)) p v d) r (p, v)
   with_constraint d r p v e lt size =
       record {
         counts = refl;
@@ -177,7 +187,9 @@ module _ (m : Mps Dec) where
       not_objective : nat_eq r obj ≡ false
       not_objective = sym (objective_is r) ∙ ap (λ b. is_objective_use (cond b (Constraint (rank m.rows r)) (cond (nat_eq r obj) Objective Unused))) e
 
-      by : (c : ℕ) → c < length (constraints m.rows) → (b : Bool) → nat_eq c k ≡ b → get_or (set d.terms k (get_or d.terms k [] ++ (p, v) ∷ [])) c [] ≡ added (nat_eq r (row c)) (p, v) (get_or d.terms c [])
+      by : (c : ℕ) → c < length (constraints m.rows) → (b : Bool) → nat_eq c k ≡ b
+          → get_or (set d.terms k (get_or d.terms k [] ++ (p, v) ∷ [])) c []
+          ≡ added (nat_eq r (row c)) (p, v) (get_or d.terms c [])
       by c within true q =
           let same = eqb-true c k q in
           ap (λ i. get_or (set d.terms k (get_or d.terms k [] ++ (p, v) ∷ [])) i []) same
@@ -226,7 +238,9 @@ module _ (m : Mps Dec) where
     pub zero_passed : is_zero_dec e.value ≡ true → IsOnItsWay m (entries_left m p es js) d
     zero_passed z = subst (λ left. IsOnItsWay m left d) (λ k i. skipped (nat_eq e.row i) (p, e.value) (filter_map (term_of i p) es) (is_zero_dec e.value) z k ++ terms_from m i (suc p) js) way
 
-    one_term : (i : ℕ) → is_zero_dec e.value ≡ false → (xs total : List Term) → xs ++ entries_left m p (e ∷ es) js i ≡ total → added (nat_eq e.row i) (p, e.value) xs ++ entries_left m p es js i ≡ total
+    one_term : (i : ℕ) → is_zero_dec e.value ≡ false → (xs total : List Term)
+        → xs ++ entries_left m p (e ∷ es) js i ≡ total → added (nat_eq e.row i) (p, e.value) xs
+        ++ entries_left m p es js i ≡ total
     one_term i z xs total h =
         moved (nat_eq e.row i) (p, e.value) xs (filter_map (term_of i p) es) (terms_from m i (suc p) js) total
         (ap (λ b. xs ++ (cons_option (if b then Some (p, e.value) else None) (filter_map (term_of i p) es) ++ terms_from m i (suc p) js)) (sym (and_not (nat_eq e.row i) (is_zero_dec e.value) z)) ∙ h)
@@ -252,7 +266,9 @@ module _ (m : Mps Dec) where
       where
         by : (z : Bool) → is_zero_dec e.value ≡ z → IsOnItsWay m (entries_left m p es js) (cond z d (with_term u p e.value d))
         by true z = zero_passed z
-        by false z = subst (λ w. IsOnItsWay m (entries_left m p es js) (with_term w p e.value d)) (sym same) (term_passed (with_term (use_of m.rows e.row) p e.value d) z (with_use d e.row p e.value lt way.rows way.costs))
+        by false z = subst (λ w. IsOnItsWay m (entries_left m p es js) (with_term w p e.value d)) (sym same)
+            (term_passed (with_term (use_of m.rows e.row) p e.value d) z
+            (with_use d e.row p e.value lt way.rows way.costs))
 
   -- ---- there is room for a term
   pub few_terms : is_too_large m ≡ false → term_count (constraint_terms m) + length (objective_terms m) ≤ most_terms
@@ -265,13 +281,24 @@ sum_le [] ys e h = omega arith
 sum_le (x ∷ xs) [] e h = absurd (omega (arith, e))
 sum_le (x ∷ xs) (y ∷ ys) e h = omega (arith, sum_by-cons length x xs, sum_by-cons length y ys, h 0 (omega arith), sum_le xs ys (omega (arith, e)) (λ c lt. h (suc c) (omega (arith, lt))))
 
-sum_lt : (xs ys : List (List Term)) (k : ℕ) → length xs ≡ length ys → ((c : ℕ) → c < length xs → length (get_or xs c []) ≤ length (get_or ys c [])) → k < length xs → length (get_or xs k []) < length (get_or ys k []) → term_count xs < term_count ys
+sum_lt : (xs ys : List (List Term)) (k : ℕ) → length xs ≡ length ys
+    → ((c : ℕ) → c < length xs → length (get_or xs c []) ≤ length (get_or ys c [])) → k < length xs
+    → length (get_or xs k []) < length (get_or ys k []) → term_count xs < term_count ys
 sum_lt [] ys k e h lt less = absurd (omega (arith, lt))
 sum_lt (x ∷ xs) [] k e h lt less = absurd (omega (arith, e))
 sum_lt (x ∷ xs) (y ∷ ys) zero e h lt less = omega (arith, sum_by-cons length x xs, sum_by-cons length y ys, less, sum_le xs ys (omega (arith, e)) (λ c lt. h (suc c) (omega (arith, lt))))
-sum_lt (x ∷ xs) (y ∷ ys) (suc k) e h lt less = omega (arith, sum_by-cons length x xs, sum_by-cons length y ys, h 0 (omega arith), sum_lt xs ys k (omega (arith, e)) (λ c lt. h (suc c) (omega (arith, lt))) (omega (arith, lt)) less)
+sum_lt (x ∷ xs) (y ∷ ys) (suc k) e h lt less = omega (
+  arith,
+  sum_by-cons length x xs,
+  sum_by-cons length y ys,
+  h 0 (omega arith),
+  sum_lt xs ys k (omega (arith, e)) (λ c lt. h (suc c) (omega (arith, lt))) (omega (arith, lt))
+      less,
+)
 
-module _ (m : Mps Dec) (clean : is_too_large m ≡ false) (p : ℕ) (e : Entry Dec) (es : List (Entry Dec)) (js : List ℕ) (d : Draft) (way : IsOnItsWay m (entries_left m p (e ∷ es) js) d) (z : is_zero_dec e.value ≡ false) (lt : e.row < length m.rows) where
+module _ (m : Mps Dec) (clean : is_too_large m ≡ false) (p : ℕ) (e : Entry Dec) (es : List (Entry Dec)) (js : List ℕ)
+    (d : Draft) (way : IsOnItsWay m (entries_left m p (e ∷ es) js) d) (z : is_zero_dec e.value ≡ false)
+    (lt : e.row < length m.rows) where
   least : (b : Bool) → nat_eq e.row e.row ≡ b → (xs total : List Term) (i : ℕ) → nat_eq e.row i ≡ true → xs ++ entries_left m p (e ∷ es) js i ≡ total → length xs < length total
   least b s xs total i f h =
       let g = ap length h in
@@ -283,7 +310,13 @@ module _ (m : Mps Dec) (clean : is_too_large m ≡ false) (p : ℕ) (e : Entry D
   no_more : (c : ℕ) → c < length d.terms → length (get_or d.terms c []) ≤ length (get_or (constraint_terms m) c [])
   no_more c within =
       let inside : c < length (constraints m.rows) = omega (arith, within, way.rows) in
-      omega (arith, ap length (way.terms c inside), length-append (get_or d.terms c []) (entries_left m p (e ∷ es) js (get_or (constraints m.rows) c 0)), ap length (get_or-map (row_terms m) (constraints m.rows) c 0 [] inside))
+      omega (
+        arith,
+        ap length (way.terms c inside),
+        length-append (get_or d.terms c [])
+            (entries_left m p (e ∷ es) js (get_or (constraints m.rows) c 0)),
+        ap length (get_or-map (row_terms m) (constraints m.rows) c 0 [] inside),
+      )
 
   room_for : is_constraint m.rows e.row ≡ true → CanAddTerm (Constraint (rank m.rows e.row)) d
   unfolding import_counts
@@ -296,7 +329,13 @@ module _ (m : Mps Dec) (clean : is_too_large m ≡ false) (p : ℕ) (e : Entry D
           arith,
           few_terms m clean,
           sum_lt d.terms (constraint_terms m) k (way.rows ∙ sym (length-map (constraints m.rows) (row_terms m))) no_more (omega (arith, inside, way.rows))
-              (omega (arith, least true (eq-eqb e.row e.row refl) (get_or d.terms k []) (row_terms m (get_or (constraints m.rows) k 0)) (get_or (constraints m.rows) k 0) here (way.terms k inside), ap length (get_or-map (row_terms m) (constraints m.rows) k 0 [] inside))),
+              (omega (
+                arith,
+                least true (eq-eqb e.row e.row refl) (get_or d.terms k [])
+                    (row_terms m (get_or (constraints m.rows) k 0)) (get_or (constraints m.rows) k 0) here
+                    (way.terms k inside),
+                ap length (get_or-map (row_terms m) (constraints m.rows) k 0 [] inside),
+              )),
         ),
       )
 
@@ -318,7 +357,8 @@ module _ (m : Mps Dec) (clean : is_too_large m ≡ false) (p : ℕ) (e : Entry D
 -- ---- the beginning and the end
 module _ (m : Mps Dec) where
   -- the next column's entries come first
-  pub column_begun : (p j : ℕ) (js : List ℕ) (d : Draft) → p < length js → j ≡ get_or js p j → IsOnItsWay m (terms_left m p (drop p js)) d → IsOnItsWay m (entries_left m p (entries_at m j) (drop (suc p) js)) d
+  pub column_begun : (p j : ℕ) (js : List ℕ) (d : Draft) → p < length js → j ≡ get_or js p j
+      → IsOnItsWay m (terms_left m p (drop p js)) d → IsOnItsWay m (entries_left m p (entries_at m j) (drop (suc p) js)) d
   unfolding terms_from
   column_begun p j js d lt is = subst (λ left. IsOnItsWay m left d) (λ k i. terms_from m i p ((drop_is js p j lt is ∙ ap (λ n. j ∷ drop n js) (add-one p)) k))
 
@@ -350,7 +390,11 @@ module _ (m : Mps Dec) where
     way_ended_terms =
         ext_get_or [] d.terms (constraint_terms m) (way.rows ∙ sym (length-map (constraints m.rows) (row_terms m)))
         (λ c lt. let inside : c < length (constraints m.rows) = omega (arith, lt, way.rows) in
-        sym (append-nil (get_or d.terms c [])) ∙ ap (λ xs. get_or d.terms c [] ++ xs) (sym (nothing_left (get_or (constraints m.rows) c 0))) ∙ way.terms c inside ∙ sym (get_or-map (row_terms m) (constraints m.rows) c 0 [] inside))
+        sym (append-nil (get_or d.terms c [])) ∙ ap (λ xs. get_or d.terms c [] ++ xs)
+        (sym (nothing_left (get_or (constraints m.rows) c 0))) ∙ way.terms c inside
+        ∙ sym (get_or-map (row_terms m) (constraints m.rows) c 0 [] inside))
 
     pub way_ended_slopes : d.slopes ≡ objective_terms m ∷ []
-    way_ended_slopes = one_list d.slopes (objective_terms m) way.costs (sym (append-nil (get_or d.slopes 0 [])) ∙ ap (λ xs. get_or d.slopes 0 [] ++ xs) (sym (nothing_left (objective_row m.rows))) ∙ way.slopes)
+    way_ended_slopes = one_list d.slopes (objective_terms m) way.costs
+        (sym (append-nil (get_or d.slopes 0 [])) ∙ ap (λ xs. get_or d.slopes 0 [] ++ xs)
+        (sym (nothing_left (objective_row m.rows))) ∙ way.slopes)

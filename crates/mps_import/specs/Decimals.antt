@@ -1,7 +1,7 @@
 -- The decimal numbers of values.
-use Rattle.fractions.specs.Rational.{ℚ}
+use Rattle.exact_numbers.specs.Rational.{ℚ}
 use Rattle.exact_numbers.specs.Values.{decimal_of}
-use Rattle.nl_meaning.specs.Trees.{Tree, number}
+use Rattle.nl_model.specs.Trees.{Tree, number}
 
 -- the expression that is one number
 abbrev pub number_tree : ℚ → Tree

@@ -3,7 +3,7 @@ use Rattle.std.specs.Prelude.{ℕ, suc, Bool, pos, ℤ, List, [], ◌∷◌, ◌
 use Rattle.std.specs.List.{filter_map, count_by}
 use Rattle.std.specs.Ordering.{is_eq, is_ne}
 use Rattle.std.specs.declared.cmp.Ordering.{Ordering}
-use Rattle.fractions.specs.Rational.{ℚ, neg_ℚ}
+use Rattle.exact_numbers.specs.Rational.{ℚ, neg_ℚ}
 use Rattle.exact_numbers.specs.declared.dec.Dec.{Dec}
 use Rattle.nl_model.specs.declared.header_counts.Counts.{Counts}
 use Rattle.nl_model.specs.File.{Term, File}

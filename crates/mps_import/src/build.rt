@@ -2,12 +2,12 @@
 ghost use Rattle.std.specs.Prelude.{◌≡◌, ◌++◌, ◌+◌, ◌≤◌, ◌<◌, ◌^◌, false, true, All, cond, None, Some, IfOk, IfErr, OnOk, get_or, length, map, nat_lt, ◌||◌};
 ghost use Rattle.std.specs.List.{count_by};
 ghost use Rattle.std.specs.Option.{option_map};
-ghost use Rattle.texts.specs.Stopped.{IfFault};
+ghost use Rattle.text_base.specs.Stopped.{IfFault};
 ghost use Rattle.std.specs.Ordering.{is_eq, is_ne};
 ghost use Rattle.exact_numbers.specs.Values.{dec_value, exponent_of, mantissa_of, order_of};
 ghost use Rattle.linear_program.specs.Intervals.{no_sides, IsOrdered};
 ghost use Rattle.mps_model.specs.Mps.{objective_row, row_interval};
-ghost use Rattle.nl_meaning.specs.Trees.{number};
+ghost use Rattle.nl_model.specs.Trees.{number};
 ghost use Rattle.nl_model.specs.HeaderWords.{header_counts, header_options};
 ghost use Rattle.mps_import.specs.Faults.{import_fault};
 ghost use Rattle.mps_import.specs.Import.{counts_with, import_counts, import_of, import_options, objective_constant};
@@ -28,7 +28,7 @@ use mps_program::{MpsFault, constraint_sides, first_empty, right_side, sides_and
 use nl_model::{Counts, Expr, ExprBuilder, Header, Interval, NlBuilder, NlFile, Node, Options};
 use std::alloc::{AllocError, Global};
 use std::cmp::Ordering;
-use texts::Stop;
+use text_base::Stop;
 
 // The most constraints, and the most columns.
 const MOST_PLACES: u32 = 0x10_0000;

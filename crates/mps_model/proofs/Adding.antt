@@ -4,8 +4,8 @@ use Rattle.std.proofs.Math.ListN.{get_or-append}
 use Rattle.std.proofs.lemmas.List.Elements.{All-push, All-set}
 use Rattle.std.proofs.lemmas.List.Quantifiers.{all_pairs_push}
 use Rattle.std.proofs.lemmas.List.Sums.{sum_by-append, sum_by-cons, sum_by-set}
-use Rattle.fractions.specs.Rational.{zero_ℚ}
-use Rattle.texts.specs.Names.{IsName}
+use Rattle.exact_numbers.specs.Rational.{zero_ℚ}
+use Rattle.text_base.specs.Names.{IsName}
 use Rattle.exact_numbers.specs.declared.dec.Dec.{Dec}
 use Rattle.exact_numbers.specs.Values.{dec_value}
 use Rattle.mps_model.specs.declared.kinds.RowKind.{RowKind}
@@ -168,7 +168,8 @@ bound_added m old kind column value a is h0 =
     }
 
 -- ---- an entry of the last column
-last_at : (e : Entry Dec) (cols : List (Column Dec)) (k : ℕ) (c : Column Dec) → length cols ≡ suc k → c ≡ get_or cols k c → set cols k (record c { entries = c.entries ++ e ∷ [] }) ≡ with_entry_last e cols
+last_at : (e : Entry Dec) (cols : List (Column Dec)) (k : ℕ) (c : Column Dec) → length cols ≡ suc k
+    → c ≡ get_or cols k c → set cols k (record c { entries = c.entries ++ e ∷ [] }) ≡ with_entry_last e cols
 last_at e [] k c h is = absurd (omega arith)
 last_at e (d ∷ []) zero c h is = ap (λ (c : Column Dec). record c { entries = c.entries ++ e ∷ [] } ∷ []) is
 last_at e (d ∷ []) (suc k) c h is = absurd (omega arith)
@@ -195,23 +196,29 @@ column_with_entry : (n : ℕ) (cols : List (Column Dec)) (k : ℕ) (c : Column D
 column_with_entry n cols k c e a h is inside few new =
     let v : Column Dec = record c { entries = c.entries ++ e ∷ [] } in
     let at : entry_count (set cols k v) + length (get_or cols k c).entries ≡ entry_count cols + length v.entries = sum_by-set (λ (c : Column Dec). length c.entries) cols k v c h in
-    let at_c : entry_count (set cols k v) + length c.entries ≡ entry_count cols + length v.entries = subst (λ (x : Column Dec). entry_count (set cols k v) + length x.entries ≡ entry_count cols + length v.entries) (sym is) at in
+    let at_c : entry_count (set cols k v) + length c.entries ≡ entry_count cols + length v.entries =
+    subst (λ (x : Column Dec). entry_count (set cols k v) + length x.entries ≡ entry_count cols + length v.entries)
+    (sym is) at in
     record {
       few = omega (arith, a.few, length-set cols k v);
       few_entries = omega (arith, at_c, few, count_push c.entries e);
       named = All-set (λ (c : Column Dec). IsName c.name) cols k v (subst (λ (c : Column Dec). IsName c.name) (sym is) (a.named k c h)) a.named;
       apart = λ i j d l m. λ same. a.apart i j d l (omega (arith, m, length-set cols k v)) (sym (name_kept cols k i c v d is refl) ∙ same ∙ name_kept cols k j c v d is refl);
-      entries = All-set (λ (c : Column Dec). AreEntries n c.entries) cols k v (one_more n c.entries e (subst (λ (c : Column Dec). AreEntries n c.entries) (sym is) (a.entries k c h)) inside new) a.entries;
+      entries = All-set (λ (c : Column Dec). AreEntries n c.entries) cols k v
+          (one_more n c.entries e (subst (λ (c : Column Dec). AreEntries n c.entries) (sym is) (a.entries k c h)) inside
+          new) a.entries;
     }
 
-pub entry_last : (m old : Mps Dec) (e : Entry Dec) (l : ℕ) (c v : Column Dec) → m ≡ old → 0 < length old.columns → l ≡ length m.columns → c ≡ get_or m.columns (l - 1) c → v ≡ record c { entries = c.entries ++ e ∷ [] } →
+pub entry_last : (m old : Mps Dec) (e : Entry Dec) (l : ℕ) (c v : Column Dec) → m ≡ old → 0 < length old.columns
+    → l ≡ length m.columns → c ≡ get_or m.columns (l - 1) c → v ≡ record c { entries = c.entries ++ e ∷ [] } →
     record m { columns = set m.columns (l - 1) v } ≡ record old { columns = with_entry_last e old.columns }
 entry_last m old e l c v is some same at more =
     let some_m : 0 < length m.columns = subst (λ (x : Mps Dec). 0 < length x.columns) (sym is) some in
     let last : set m.columns (l - 1) v ≡ with_entry_last e m.columns = ap (λ v. set m.columns (l - 1) v) more ∙ last_at e m.columns (l - 1) c (omega (arith, some_m, same)) at in
     ap (λ cs. record m { columns = cs }) last ∙ ap (λ (x : Mps Dec). record x { columns = with_entry_last e x.columns }) is
 
-pub entry_added : (m old : Mps Dec) (row : ℕ) (value : Dec) (l : ℕ) (c v : Column Dec) → IsPartOfMps dec_value m → m ≡ old → CanAddEntry old row → l ≡ length m.columns → c ≡ get_or m.columns (l - 1) c →
+pub entry_added : (m old : Mps Dec) (row : ℕ) (value : Dec) (l : ℕ) (c v : Column Dec) → IsPartOfMps dec_value m
+    → m ≡ old → CanAddEntry old row → l ≡ length m.columns → c ≡ get_or m.columns (l - 1) c →
     v ≡ record c { entries = c.entries ++ record { row = row; value = value } ∷ [] } → IsPartOfMps dec_value (record m { columns = set m.columns (l - 1) v })
 entry_added m old row value l c v a is h0 same at more =
     let h : CanAddEntry m row = subst (λ x. CanAddEntry x row) (sym is) h0 in
@@ -219,7 +226,8 @@ entry_added m old row value l c v a is h0 same at more =
     let k : length m.columns ≡ suc (l - 1) = omega (arith, h.some, same) in
     let new : All (IsOtherEntry row) c.entries = subst (λ es. All (IsOtherEntry row) es) (last_entries_at m.columns (l - 1) c k at) h.new in
     let columns : AreColumns (length m.rows) (set m.columns (l - 1) v) =
-    subst (λ (v : Column Dec). AreColumns (length m.rows) (set m.columns (l - 1) v)) (sym more) (column_with_entry (length m.rows) m.columns (l - 1) c e a.columns (omega (arith, k)) at h.within h.few new) in
+    subst (λ (v : Column Dec). AreColumns (length m.rows) (set m.columns (l - 1) v)) (sym more)
+    (column_with_entry (length m.rows) m.columns (l - 1) c e a.columns (omega (arith, k)) at h.within h.few new) in
     record {
       name = a.name;
       rows = a.rows;

@@ -1,2 +1,4 @@
 pub mod Adding
 pub mod Texts
+pub mod NameLemmas
+pub mod NumeralLemmas

@@ -1,8 +1,10 @@
 -- The text of a program is that of the program of its values.
 use Rattle.std.proofs.Common.{◌≡◌, ℕ, zero, suc, ◌∙◌, ap, ap₂, refl, Bool, false, codes, List, [], ◌∷◌, ◌++◌, map, get_or}
-use Rattle.texts.specs.WordLines.{WordLine, indented, unless_empty, lines_text}
+use Rattle.text_base.specs.WordLines.{WordLine, indented, unless_empty, lines_text}
 use Rattle.mps_model.specs.Mps.{MpsRow, Entry, Column, Bound, Mps, entry_with, column_with, bound_with, with_values, no_column}
-use Rattle.mps_model.specs.Text.{section, bound_text, value_words, name_lines, sense_lines, row_line, entry_line, entry_lines, column_lines, change_lines, markers_after, bound_line, mps_lines, mps_text_by}
+use Rattle.mps_model.specs.Text.{section, bound_text, value_words, name_lines, sense_lines, row_line, entry_line}
+use Rattle.mps_model.specs.Text.{entry_lines, column_lines, change_lines, markers_after, bound_line, mps_lines}
+use Rattle.mps_model.specs.Text.{mps_text_by}
 
 module _ {V W : Type 0} (text : W → List ℕ) (value : V → W) where
   abbrev text_of_value : V → List ℕ
@@ -37,12 +39,18 @@ module _ {V W : Type 0} (text : W → List ℕ) (value : V → W) where
   unfolding mps_lines with_values
   same_lines m =
       let head = name_lines m.name ++ sense_lines m.maximise ++ section (codes "ROWS") ∷ map row_line m.rows in
-      let ranges : unless_empty (map (entry_with value) m.ranges) (section (codes "RANGES") ∷ entry_lines text m.rows (codes "RNG") (map (entry_with value) m.ranges)) ≡ unless_empty m.ranges (section (codes "RANGES") ∷ entry_lines text_of_value m.rows (codes "RNG") m.ranges) =
+      let ranges : unless_empty (map (entry_with value) m.ranges)
+      (section (codes "RANGES") ∷ entry_lines text m.rows (codes "RNG") (map (entry_with value) m.ranges))
+      ≡ unless_empty m.ranges (section (codes "RANGES") ∷ entry_lines text_of_value m.rows (codes "RNG") m.ranges) =
       unless_map (entry_with value) m.ranges _ ∙ ap (λ x. unless_empty m.ranges (section (codes "RANGES") ∷ x)) (same_entries m.rows (codes "RNG") m.ranges) in
-      let bounds : unless_empty (map (bound_with value) m.bounds) (section (codes "BOUNDS") ∷ map (bound_line text (map (column_with value) m.columns)) (map (bound_with value) m.bounds)) ≡ unless_empty m.bounds (section (codes "BOUNDS") ∷ map (bound_line text_of_value m.columns) m.bounds) =
+      let bounds : unless_empty (map (bound_with value) m.bounds)
+      (section (codes "BOUNDS") ∷ map (bound_line text (map (column_with value) m.columns))
+      (map (bound_with value) m.bounds)) ≡ unless_empty m.bounds
+      (section (codes "BOUNDS") ∷ map (bound_line text_of_value m.columns) m.bounds) =
       unless_map (bound_with value) m.bounds _ ∙ ap (λ x. unless_empty m.bounds (section (codes "BOUNDS") ∷ x)) (same_bounds m.columns m.bounds) in
       ap (λ x. x ++ section (codes "ENDATA") ∷ [])
-      (ap₂ ◌++◌ (ap₂ ◌++◌ (ap₂ (λ x y. head ++ section (codes "COLUMNS") ∷ x ++ section (codes "RHS") ∷ y) (same_columns m.rows false 0 m.columns) (same_entries m.rows (codes "RHS") m.rhs)) ranges) bounds)
+      (ap₂ ◌++◌ (ap₂ ◌++◌ (ap₂ (λ x y. head ++ section (codes "COLUMNS") ∷ x ++ section (codes "RHS") ∷ y)
+      (same_columns m.rows false 0 m.columns) (same_entries m.rows (codes "RHS") m.rhs)) ranges) bounds)
 
   pub text_by_values : (m : Mps V) → mps_text_by text (with_values value m) ≡ mps_text_by text_of_value m
   text_by_values m = ap lines_text (same_lines m)

@@ -1,6 +1,6 @@
 -- How the lists of an MPS program are seen, and when a part may be added.
 use Rattle.std.specs.Prelude.{◌≡◌, ◌≢◌, ℕ, ◌+◌, ◌<◌, ◌≤◌, ◌^◌, Bool, List, [], ◌∷◌, ◌++◌, length, map, Option, Some, None, All}
-use Rattle.fractions.specs.Rational.{zero_ℚ}
+use Rattle.exact_numbers.specs.Rational.{zero_ℚ}
 use Rattle.exact_numbers.specs.declared.dec.Dec.{Dec}
 use Rattle.exact_numbers.specs.Values.{dec_value}
 use Rattle.mps_model.specs.declared.kinds.BoundKind.{BoundKind}

@@ -3,14 +3,14 @@
 -- take 0 and 1. Both keep the lower side 0 under a UI below 0, glpsol under a UP below 0 too, and
 -- under a LO or MI alone glpsol ends a marked column at 1.
 use Rattle.std.specs.Prelude.{ℕ, suc, ◌<◌, pos, int_lt, nat_eq, Bool, true, false, cond, ◌||◌, ◌&&◌, IsTrue, List, [], ◌∷◌, length, map, get_or, Option, Some, None}
-pub use Rattle.fractions.specs.Functions.{or_zero}
-use Rattle.fractions.specs.Rational.{ℚ, zero_ℚ, one_ℚ, ◌+ℚ◌, ◌-ℚ◌, ◌*ℚ◌, neg_ℚ, IsWhole}
-use Rattle.fractions.specs.Sums.{sum_over, sum_below}
+pub use Rattle.exact_numbers.specs.Functions.{or_zero}
+use Rattle.exact_numbers.specs.Rational.{ℚ, zero_ℚ, one_ℚ, ◌+ℚ◌, ◌-ℚ◌, ◌*ℚ◌, neg_ℚ, IsWhole}
+use Rattle.exact_numbers.specs.Sums.{sum_over, sum_below}
 pub use Rattle.mps_model.specs.declared.kinds.RowKind.{RowKind}
 use Rattle.mps_model.specs.declared.kinds.RowKind.TheVariants.{N, L, G, E}
 pub use Rattle.mps_model.specs.declared.kinds.BoundKind.{BoundKind}
 use Rattle.mps_model.specs.declared.kinds.BoundKind.TheVariants.{Lo, Up, Fx, Fr, Mi, Pl, Bv, Li, Ui}
-use Rattle.program_meaning.specs.Linear.{Interval, IsInside, unbounded, value_at}
+use Rattle.linear_program.specs.Linear.{Interval, IsInside, unbounded, value_at}
 
 -- a row: its name and its kind
 pub record MpsRow : Type 0 where

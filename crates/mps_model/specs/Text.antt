@@ -1,7 +1,7 @@
 -- The one written text of an MPS program, line by line (own profile of free MPS).
 use Rattle.std.specs.Prelude.{ℕ, ◌+◌, Bool, true, false, List, [], ◌∷◌, ◌++◌, get_or, map, codes}
 use Rattle.std.specs.Fmt.{decimal}
-use Rattle.texts.specs.WordLines.{WordLine, indented, unless_empty, lines_text}
+use Rattle.text_base.specs.WordLines.{WordLine, indented, unless_empty, lines_text}
 use Rattle.mps_model.specs.Mps.{RowKind, BoundKind, MpsRow, Entry, Column, Bound, Mps, no_mps_row, no_column}
 use Rattle.mps_model.specs.declared.kinds.RowKind.TheVariants.{N, L, G, E}
 use Rattle.mps_model.specs.declared.kinds.BoundKind.TheVariants.{Lo, Up, Fx, Fr, Mi, Pl, Bv, Li, Ui}

@@ -1,8 +1,8 @@
 -- Which MPS programs there are: the rules that their parts obey (own profile).
 use Rattle.std.specs.Prelude.{◌≡◌, ◌≢◌, ℕ, ◌<◌, ◌≤◌, ◌^◌, false, ◌&&◌, List, [], ◌∷◌, length, get_or, All, codes}
 use Rattle.std.specs.List.{sum_by, AllPairs}
-use Rattle.fractions.specs.Rational.{ℚ, zero_ℚ}
-use Rattle.texts.specs.Names.{IsName}
+use Rattle.exact_numbers.specs.Rational.{ℚ, zero_ℚ}
+use Rattle.text_base.specs.Names.{IsName}
 use Rattle.mps_model.specs.Mps.{BoundKind, MpsRow, Entry, Column, Bound, Mps, no_mps_row, sets_lower, sets_upper, objective_row}
 use Rattle.mps_model.specs.declared.kinds.RowKind.TheVariants.{N}
 use Rattle.mps_model.specs.declared.kinds.BoundKind.TheVariants.{Lo, Up, Fx, Fr, Mi, Pl, Bv, Li, Ui}

@@ -10,7 +10,7 @@ use crate::program::Mps;
 use exact_numbers::Dec;
 use std::alloc::{AllocError, Global};
 use std::marker::Model;
-use texts::Name;
+use text_base::Name;
 
 /// A program that is being built, in file order.
 #[derive(Drop)]

@@ -2,7 +2,7 @@
 ghost use Rattle.std.specs.Prelude.{◌≡◌, ℕ, List};
 ghost use Rattle.exact_numbers.specs.Values.{dec_value};
 ghost use Rattle.exact_numbers.specs.declared.dec.Dec.{Dec};
-ghost use Rattle.fractions.specs.Rational.{ℚ};
+ghost use Rattle.exact_numbers.specs.Rational.{ℚ};
 ghost use Rattle.mps_model.specs.Mps.{Mps, with_values};
 ghost use Rattle.mps_model.specs.Text.{mps_text_by};
 

@@ -1,13 +1,13 @@
 // Rows and columns of a program.
 ghost use Rattle.std.specs.Prelude.{◌≡◌, ◌++◌, ◌∷◌, [], OnOk, OnErr, map};
 ghost use Rattle.mps_model.specs.Built.{entry_of};
-ghost use Rattle.texts.specs.Names.{IsName};
+ghost use Rattle.text_base.specs.Names.{IsName};
 
 use crate::kinds::RowKind;
 use exact_numbers::Dec;
 use std::alloc::{AllocError, Global};
 use std::marker::Model;
-use texts::Name;
+use text_base::Name;
 
 /// A row of a program.
 #[derive(Drop)]

@@ -8,7 +8,7 @@ use crate::kinds::BoundKind;
 use crate::parts::{MpsColumn, MpsRow};
 use exact_numbers::Dec;
 use std::marker::Model;
-use texts::Name;
+use text_base::Name;
 
 /// An MPS program; its lists are in file order.
 #[derive(Drop)]

@@ -3,10 +3,10 @@ use Rattle.std.proofs.Common.{◌≡◌, ℕ, ◌≤◌, ◌^◌, ◌∙◌, sym
 use Rattle.std.proofs.lemmas.Bool.{ltb-false, or_parts}
 use Rattle.std.specs.Option.{option_map, option_or}
 use Rattle.std.specs.Ordering.{is_gt}
-use Rattle.texts.specs.Stopped.{IfFault}
-use Rattle.texts.specs.declared.stop.Stop.{Stop}
-use Rattle.texts.specs.declared.stop.Stop.TheVariants.{Fault, Memory}
-use Rattle.program_meaning.specs.Linear.{Interval}
+use Rattle.text_base.specs.Stopped.{IfFault}
+use Rattle.text_base.specs.declared.stop.Stop.{Stop}
+use Rattle.text_base.specs.declared.stop.Stop.TheVariants.{Fault, Memory}
+use Rattle.linear_program.specs.Linear.{Interval}
 use Rattle.exact_numbers.specs.declared.dec.Dec.{Dec}
 use Rattle.linear_program.specs.Intervals.{interval_of, no_sides}
 use Rattle.linear_program.specs.declared.interval.Interval.{Interval as Sides}
@@ -49,7 +49,8 @@ module _ (m : Mps Dec) where
         no_fault body objective = numbers_fault ∙ ap₂ (λ o b. option_map TooWide (option_or o (if b then Some (objective_row m.rows) else None))) body objective
 
 -- a stop tells the first fault, where what it tells is that
-pub stopped : {A : Type 0} (P Q : MpsFault → Type 0) (r : Result A (Stop MpsFault)) (stop : Stop MpsFault) → ((f : MpsFault) → P f → Q f) → IfFault stop P → IsErrAnd r (λ y. y ≡ stop) → IfErr r (λ s. IfFault s Q)
+pub stopped : {A : Type 0} (P Q : MpsFault → Type 0) (r : Result A (Stop MpsFault)) (stop : Stop MpsFault)
+    → ((f : MpsFault) → P f → Q f) → IfFault stop P → IsErrAnd r (λ y. y ≡ stop) → IfErr r (λ s. IfFault s Q)
 stopped P Q (Ok x) stop h g i = tt
 stopped P Q (Err y) stop h g i = subst (λ s. IfFault s Q) (sym i) (through stop g)
   where
@@ -58,7 +59,9 @@ stopped P Q (Err y) stop h g i = subst (λ s. IfFault s Q) (sym i) (through stop
     through Memory g = tt
 
 -- the first column whose sides cross is the first empty one
-pub empty_is : (m : Mps Dec) (sides : List Sides) → sides ≡ listed (λ j. sides_from (column_interval (values_of m) j)) (length m.columns) → first (places (λ j. both_sides is_gt (interval_of (get_or sides j no_sides)).lower (interval_of (get_or sides j no_sides)).upper) (length sides)) ≡ first_empty m
+pub empty_is : (m : Mps Dec) (sides : List Sides) → sides ≡ listed (λ j. sides_from (column_interval (values_of m) j))
+    (length m.columns) → first (places (λ j. both_sides is_gt (interval_of (get_or sides j no_sides)).lower
+    (interval_of (get_or sides j no_sides)).upper) (length sides)) ≡ first_empty m
 unfolding with_values
 empty_is m sides are =
     let f : ℕ → Sides = λ j. sides_from (column_interval (values_of m) j) in
@@ -66,10 +69,13 @@ empty_is m sides are =
     let size : length sides ≡ length m.columns = ap length are ∙ listed_length f (length m.columns) in
     ap (λ n. first (places test n)) size
     ∙ ap first (places_same test (is_column_empty m) (length m.columns)
-    (λ j lt. ap (λ (s : Interval). both_sides is_gt s.lower s.upper) (ap interval_of (ap (λ ss. get_or ss j no_sides) are ∙ listed_at f (length m.columns) j no_sides lt) ∙ sides_back (column_interval (values_of m) j) (column_fits j m.bounds))))
+    (λ j lt. ap (λ (s : Interval). both_sides is_gt s.lower s.upper)
+    (ap interval_of (ap (λ ss. get_or ss j no_sides) are ∙ listed_at f (length m.columns) j no_sides lt)
+    ∙ sides_back (column_interval (values_of m) j) (column_fits j m.bounds))))
 
 -- ---- the size
-pub large_is : (m : Mps Dec) (r c e : ℕ) (b : Bool) → r ≡ length (constraints m.rows) → c ≡ length m.columns → e ≡ entry_count m.columns → b ≡ (nat_lt (2 ^ 20) r || nat_lt (2 ^ 20) c || nat_lt (2 ^ 23) e) → b ≡ is_too_large m
+pub large_is : (m : Mps Dec) (r c e : ℕ) (b : Bool) → r ≡ length (constraints m.rows) → c ≡ length m.columns
+    → e ≡ entry_count m.columns → b ≡ (nat_lt (2 ^ 20) r || nat_lt (2 ^ 20) c || nat_lt (2 ^ 23) e) → b ≡ is_too_large m
 unfolding is_too_large
 large_is m r c e b p q s h = h ∙ (λ i. nat_lt (2 ^ 20) (p i) || nat_lt (2 ^ 20) (q i) || nat_lt (2 ^ 23) (s i))
 

@@ -115,5 +115,7 @@ module _ (test : ℕ → Bool) where
       last : (b : Bool) → test n ≡ b → before n ≤ c → before (get_or (places test n ++ one_where (test n) n) c 0) ≡ c
       last true e above =
           let same : c ≡ before n + 0 = omega (arith, above, lt, before_next n e) in
-          ap before (ap (λ k. get_or (places test n ++ one_where (test n) n) k 0) same ∙ get_or-append-add (places test n) (one_where (test n) n) 0 0 ∙ ap (λ b. get_or (one_where b n) 0 0) e) ∙ omega (arith, same)
+          ap before (ap (λ k. get_or (places test n ++ one_where (test n) n) k 0) same
+          ∙ get_or-append-add (places test n) (one_where (test n) n) 0 0 ∙ ap (λ b. get_or (one_where b n) 0 0) e)
+          ∙ omega (arith, same)
       last false e above = absurd (omega (arith, above, lt, before_suc n, ap (λ b. cond {A = ℕ} b 1 0) e))

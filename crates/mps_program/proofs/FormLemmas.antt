@@ -1,15 +1,16 @@
 -- The forms of rows, and the linear program that they are of.
-use Rattle.std.proofs.Common.{◌≡◌, ℕ, suc, ◌+◌, ◌<◌, ◌≤◌, ◌∙◌, sym, ap, ap₂, refl, subst, subst₂, arith, Bool, true, false, not, ◌&&◌, ◌||◌, Some, append-nil, List, [], ◌∷◌, ◌++◌, length, get_or, map, All}
+use Rattle.std.proofs.Common.{◌≡◌, ℕ, suc, ◌+◌, ◌<◌, ◌≤◌, ◌∙◌, sym, ap, ap₂, refl, subst, subst₂, arith, Bool, true}
+use Rattle.std.proofs.Common.{false, not, ◌&&◌, ◌||◌, Some, append-nil, List, [], ◌∷◌, ◌++◌, length, get_or, map, All}
 use Rattle.std.proofs.lemmas.List.{length-map, get_or_default}
-use Rattle.fractions.specs.Fits.{fits}
+use Rattle.exact_numbers.specs.Fits.{fits}
 use Rattle.std.proofs.lemmas.List.Elements.{All-nil, All-cons, All-head, All-tail}
 use Rattle.std.proofs.lemmas.List.Sums.{sum_by-cons}
 use Rattle.std.specs.List.{sum_by}
-use Rattle.fractions.specs.Rational.{ℚ, zero_ℚ, neg_ℚ}
+use Rattle.exact_numbers.specs.Rational.{ℚ, zero_ℚ, neg_ℚ}
 use Rattle.exact_numbers.specs.declared.dec.Dec.{Dec}
 use Rattle.exact_numbers.specs.Values.{dec_value}
-use Rattle.program_meaning.specs.Linear.{Row}
-use Rattle.program_meaning.specs.Lines.{Line, form_of_line}
+use Rattle.linear_program.specs.Linear.{Row}
+use Rattle.linear_program.specs.Lines.{Line, form_of_line}
 use Rattle.linear_program.specs.Coefs.{AreAscending, coef_in}
 use Rattle.linear_program.specs.Decimals.{DecimalTerm, fraction_term}
 use Rattle.linear_program.specs.Forms.{form_terms}
@@ -31,8 +32,8 @@ use Rattle.mps_program.specs.Decimals.{sides_from}
 use Rattle.mps_program.specs.InsideForms.{IsFormOf, AreBodiesOf, AreTermsFrom}
 use Rattle.mps_program.proofs.LawLemmas.{past_columns}
 use Rattle.mps_program.proofs.TermLemmas.{AreApart, row_decimals, row_coefs}
-use Rattle.term_batches.specs.Parts.{AreLater, ArePart}
-use Rattle.term_batches.proofs.BatchLemmas.{part_later}
+use Rattle.linear_program.specs.Parts.{AreLater, ArePart}
+use Rattle.linear_program.proofs.BucketLemmas.{part_later}
 
 -- ---- one form
 module _ (m : Mps Dec) (apart : AreApart (length m.rows) m.columns) (i : ℕ) (fit : has_wide_term (row_terms m i) ≡ false) (k : ℚ) (f : Form) (is : IsFormOf k (row_terms m i) f) where
@@ -114,7 +115,8 @@ module _ (m : Mps Dec) (ts : List (List DecimalTerm)) (are : ts ≡ listed (row_
             own.terms k [] inside ∙ ap (λ us. get_or us (i + k) []) are ∙ listed_at (row_terms m) (length m.rows) (i + k) [] (omega (arith, inside, within));
       }
 
-pub row_test : (rows read : List MpsRow) (i : ℕ) (row : MpsRow) (kind : RowKind) (b : Bool) → i < length read → read ≡ rows → row ≡ get_or read i row → kind ≡ row.kind → b ≡ is_bounded_kind kind → b ≡ is_constraint rows i
+pub row_test : (rows read : List MpsRow) (i : ℕ) (row : MpsRow) (kind : RowKind) (b : Bool) → i < length read
+    → read ≡ rows → row ≡ get_or read i row → kind ≡ row.kind → b ≡ is_bounded_kind kind → b ≡ is_constraint rows i
 row_test rows read i row kind b lt e is k h = h ∙ ap is_bounded_kind (k ∙ ap (λ (r : MpsRow). r.kind) (is ∙ get_or_default read i row no_mps_row lt)) ∙ ap (λ rs. is_constraint rs i) e
 
 -- the loop over the rows, with one row more
@@ -122,7 +124,9 @@ module _ (m : Mps Dec) (i next : ℕ) (step : i + 1 ≡ next) (fs new : List For
   abbrev IsNext : ℕ → Type 0
   IsNext n = AreBodiesOf (row_terms m) (places (is_constraint m.rows) n) new × (places (is_body_wide m) n ≡ [])
 
-  pub next_body : (f : Form) (k : ℚ) (own : List DecimalTerm) (b w : Bool) → b ≡ is_constraint m.rows i → b ≡ true → own ≡ row_terms m i → w ≡ has_wide_term own → w ≡ false → k ≡ zero_ℚ → IsFormOf k own f → new ≡ fs ++ f ∷ [] → IsNext next
+  pub next_body : (f : Form) (k : ℚ) (own : List DecimalTerm) (b w : Bool) → b ≡ is_constraint m.rows i → b ≡ true
+      → own ≡ row_terms m i → w ≡ has_wide_term own → w ≡ false → k ≡ zero_ℚ → IsFormOf k own f → new ≡ fs ++ f ∷ []
+      → IsNext next
   next_body f k own b w t yes_here o h e z form n =
       let here : is_constraint m.rows i ≡ true = sym t ∙ yes_here in
       let fit : has_wide_term (row_terms m i) ≡ false = ap has_wide_term (sym o) ∙ sym h ∙ e in
@@ -136,11 +140,15 @@ module _ (m : Mps Dec) (i next : ℕ) (step : i + 1 ≡ next) (fs new : List For
   next_other b t no_here n =
       let here : is_constraint m.rows i ≡ false = sym t ∙ no_here in
       subst IsNext step (
-        subst₂ (λ is gs. AreBodiesOf (row_terms m) is gs) (sym (append-nil (places (is_constraint m.rows) i)) ∙ ap (λ b. places (is_constraint m.rows) i ++ one_where b i) (sym here) ∙ sym (places_more (is_constraint m.rows) i)) (sym n) before,
+        subst₂ (λ is gs. AreBodiesOf (row_terms m) is gs) (sym (append-nil (places (is_constraint m.rows) i))
+            ∙ ap (λ b. places (is_constraint m.rows) i ++ one_where b i) (sym here)
+            ∙ sym (places_more (is_constraint m.rows) i)) (sym n) before,
         none_more (is_body_wide m) i none (ap (λ b. b && has_wide_term (row_terms m i)) here),
       )
 
-pub first_body : (m : Mps Dec) (i : ℕ) (own : List DecimalTerm) (b w : Bool) → i < length m.rows → places (is_body_wide m) i ≡ [] → b ≡ is_constraint m.rows i → b ≡ true → own ≡ row_terms m i → w ≡ has_wide_term own → w ≡ true → first_wide_body m ≡ Some i
+pub first_body : (m : Mps Dec) (i : ℕ) (own : List DecimalTerm) (b w : Bool) → i < length m.rows
+    → places (is_body_wide m) i ≡ [] → b ≡ is_constraint m.rows i → b ≡ true → own ≡ row_terms m i → w ≡ has_wide_term own
+    → w ≡ true → first_wide_body m ≡ Some i
 first_body m i own b w lt none t here o h wide = first_here (is_body_wide m) (length m.rows) i lt none (ap₂ ◌&&◌ (sym t ∙ here) (ap has_wide_term (sym o) ∙ sym h ∙ wide))
 
 pub bodies_end : (m : Mps Dec) (i : ℕ) (fs : List Form) → i ≡ length m.rows → AreBodiesOf (row_terms m) (places (is_constraint m.rows) i) fs → AreBodiesOf (row_terms m) (constraints m.rows) fs
@@ -158,5 +166,7 @@ module _ (m : Mps Dec) (place : ℕ) (rhs : Dec) (at : place ≡ objective_row m
         ap (λ b. not b || has_wide_term (row_terms m (objective_row m.rows))) (ap fits (sym value) ∙ side)
         ∙ ap (λ p. has_wide_term (row_terms m p)) (sym at) ∙ ap has_wide_term (sym o) ∙ sym h
 
-  pub objective_form_is : (f : Form) (k s : ℚ) (own : List DecimalTerm) → own ≡ row_terms m place → s ≡ dec_value rhs → k ≡ neg_ℚ s → IsFormOf k own f → IsFormOf (neg_ℚ (rhs_at (values_of m) (objective_row m.rows))) (row_terms m (objective_row m.rows)) f
+  pub objective_form_is : (f : Form) (k s : ℚ) (own : List DecimalTerm) → own ≡ row_terms m place → s ≡ dec_value rhs
+      → k ≡ neg_ℚ s → IsFormOf k own f → IsFormOf (neg_ℚ (rhs_at (values_of m) (objective_row m.rows)))
+      (row_terms m (objective_row m.rows)) f
   objective_form_is f k s own o e n form = subst₂ (λ c us. IsFormOf c us f) (n ∙ ap neg_ℚ (e ∙ value)) (o ∙ ap (row_terms m) at) form

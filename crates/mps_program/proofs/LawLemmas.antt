@@ -1,15 +1,18 @@
 -- The linear program means what the program means.
-use Rattle.std.proofs.Common.{◌≡◌, ℕ, suc, ◌<◌, ◌≤◌, ◌∙◌, sym, ap, ap₂, refl, subst, arith, Bool, true, false, IsTrue, cond, nat_eq, List, [], ◌∷◌, length, get_or, All, Option, Some, None, ⊎_elim, ◌↔◌}
+use Rattle.std.proofs.Common.{◌≡◌, ℕ, suc, ◌<◌, ◌≤◌, ◌∙◌, sym, ap, ap₂, refl, subst, arith, Bool, true, false, IsTrue}
+use Rattle.std.proofs.Common.{cond, nat_eq, List, [], ◌∷◌, length, get_or, All, Option, Some, None, ⊎_elim, ◌↔◌}
 use Rattle.std.proofs.lemmas.Bool.{cases_Bool}
 use Rattle.std.proofs.lemmas.List.{get_or_past}
 use Rattle.std.proofs.lemmas.List.Elements.{All-nil, All-cons, All-head, All-tail}
-use Rattle.fractions.specs.Rational.{ℚ, zero_ℚ, one_ℚ, ◌+ℚ◌, ◌*ℚ◌, neg_ℚ}
-use Rattle.fractions.specs.Sums.{sum_over}
-use Rattle.fractions.proofs.Arithmetic.{zero-+ℚ, +ℚ_comm, -ℚ_lem, zero-*ℚ, *ℚ_one, +ℚ-*ℚ}
-use Rattle.fractions.proofs.Adding.{sum_below_same}
-use Rattle.program_meaning.specs.Elements.{elements_from}
-use Rattle.program_meaning.specs.Linear.{Row, Variable, IsInside, AreOrdered, value_at, linear_part, form_value, no_variable, variable_at, variable_count, RowHolds, IsFeasible, objective_value, IsLinear}
-use Rattle.program_meaning.proofs.Elements.{elements_length, elements_at}
+use Rattle.exact_numbers.specs.Rational.{ℚ, zero_ℚ, one_ℚ, ◌+ℚ◌, ◌*ℚ◌, neg_ℚ}
+use Rattle.exact_numbers.specs.Sums.{sum_over}
+use Rattle.exact_numbers.proofs.RationalLaws.{zero-+ℚ, +ℚ_comm, -ℚ_lem, zero-*ℚ, *ℚ_one, +ℚ-*ℚ}
+use Rattle.exact_numbers.proofs.Adding.{sum_below_same}
+use Rattle.linear_program.specs.Elements.{elements_from}
+use Rattle.linear_program.specs.Linear.{Row, Variable, IsInside, AreOrdered, value_at, linear_part, form_value}
+use Rattle.linear_program.specs.Linear.{no_variable, variable_at, variable_count, RowHolds, IsFeasible, objective_value}
+use Rattle.linear_program.specs.Linear.{IsLinear}
+use Rattle.linear_program.proofs.Elements.{elements_length, elements_at}
 use Rattle.mps_model.specs.declared.kinds.RowKind.{RowKind}
 use Rattle.mps_model.specs.declared.kinds.RowKind.TheVariants.{N}
 use Rattle.mps_model.specs.Mps.{Entry, Mps, no_mps_row, no_column, column_at, part_of_row, row_value, at_row, rhs_at, row_sides, row_interval, objective_row, mps_objective, IsMpsFeasible}
@@ -68,8 +71,12 @@ module _ (m : Mps ℚ) where
   unfolding linear_of
   linear_lem =
       record {
-        ordered = all_rows (λ r. AreOrdered r.side.lower r.side.upper) (λ k i. as_ordered (row_interval m i).lower (row_interval m i).upper (row_rising (get_or m.rows i no_mps_row).kind (rhs_at m i) (at_row i m.ranges))) 0 (constraints m.rows);
-        within = all_rows (λ r. (j : ℕ) → length (elements_from (linear_variable m) 0 width) ≤ j → r.body.coefficient j ≡ zero_ℚ) (λ k i j h. past_columns m i j (subst (λ n. n ≤ j) (elements_length (linear_variable m) 0 width) h)) 0 (constraints m.rows);
+        ordered = all_rows (λ r. AreOrdered r.side.lower r.side.upper)
+            (λ k i. as_ordered (row_interval m i).lower (row_interval m i).upper
+            (row_rising (get_or m.rows i no_mps_row).kind (rhs_at m i) (at_row i m.ranges))) 0 (constraints m.rows);
+        within = all_rows (λ r. (j : ℕ) → length (elements_from (linear_variable m) 0 width) ≤ j
+            → r.body.coefficient j ≡ zero_ℚ) (λ k i j h. past_columns m i j
+            (subst (λ n. n ≤ j) (elements_length (linear_variable m) 0 width) h)) 0 (constraints m.rows);
       }
 
   pub sense_lem : (linear_of m).maximise ≡ m.maximise
@@ -79,7 +86,9 @@ module _ (m : Mps ℚ) where
   module _ (xs : List ℚ) where
     part_lem : (i : ℕ) → linear_part (coefficient_at m i) width xs ≡ row_value m xs i
     unfolding linear_part row_value
-    part_lem i = sum_below_same (λ j. coefficient_at m i j *ℚ value_at xs j) (λ j. part_of_row i (column_at m j).entries (value_at xs j)) width (λ j lt. part_times i (column_at m j).entries (value_at xs j))
+    part_lem i = sum_below_same (λ j. coefficient_at m i j *ℚ value_at xs j)
+        (λ j. part_of_row i (column_at m j).entries (value_at xs j)) width
+        (λ j lt. part_times i (column_at m j).entries (value_at xs j))
 
     pub body_lem : (i n : ℕ) → n ≡ width → form_value (row_form m i) n xs ≡ row_value m xs i
     body_lem i n e = zero-+ℚ (linear_part (coefficient_at m i) n xs) ∙ ap (λ n. linear_part (coefficient_at m i) n xs) e ∙ part_lem i
@@ -98,11 +107,15 @@ module _ (m : Mps ℚ) where
 
     rows_hold : (n k : ℕ) (is : List ℕ) → n ≡ width → All Holds is → All (RowHolds n xs) (linear_rows m k is)
     rows_hold n k [] e h = All-nil (RowHolds n xs)
-    rows_hold n k (i ∷ is) e h = All-cons (RowHolds n xs) (linear_row m k i) (linear_rows m (suc k) is) (subst (IsInside (row_interval m i)) (sym (body_lem i n e)) (All-head Holds i is h)) (rows_hold n (suc k) is e (All-tail Holds i is h))
+    rows_hold n k (i ∷ is) e h = All-cons (RowHolds n xs) (linear_row m k i) (linear_rows m (suc k) is)
+        (subst (IsInside (row_interval m i)) (sym (body_lem i n e)) (All-head Holds i is h))
+        (rows_hold n (suc k) is e (All-tail Holds i is h))
 
     hold_rows : (n k : ℕ) (is : List ℕ) → n ≡ width → All (RowHolds n xs) (linear_rows m k is) → All Holds is
     hold_rows n k [] e h = All-nil Holds
-    hold_rows n k (i ∷ is) e h = All-cons Holds i is (subst (IsInside (row_interval m i)) (body_lem i n e) (All-head (RowHolds n xs) (linear_row m k i) (linear_rows m (suc k) is) h)) (hold_rows n (suc k) is e (All-tail (RowHolds n xs) (linear_row m k i) (linear_rows m (suc k) is) h))
+    hold_rows n k (i ∷ is) e h = All-cons Holds i is (subst (IsInside (row_interval m i)) (body_lem i n e)
+        (All-head (RowHolds n xs) (linear_row m k i) (linear_rows m (suc k) is) h))
+        (hold_rows n (suc k) is e (All-tail (RowHolds n xs) (linear_row m k i) (linear_rows m (suc k) is) h))
 
     constraints_hold : IsMpsFeasible m xs → All Holds (constraints m.rows)
     unfolding constraints

@@ -1,5 +1,7 @@
 -- What the loops over rows, columns and bounds have still to do.
-use Rattle.std.proofs.Common.{◌≡◌, ◌≢◌, ℕ, suc, ◌+◌, ◌<◌, ◌≤◌, ◌∙◌, sym, ap, ap₂, refl, subst, arith, Bool, true, false, cond, nat_eq, ◌&&◌, ◌||◌, List, [], ◌∷◌, length, get_or, map, drop, set, Option, Some, None, All, add-one}
+use Rattle.std.proofs.Common.{◌≡◌, ◌≢◌, ℕ, suc, ◌+◌, ◌<◌, ◌≤◌, ◌∙◌, sym, ap, ap₂, refl, subst, arith, Bool, true, false}
+use Rattle.std.proofs.Common.{cond, nat_eq, ◌&&◌, ◌||◌, List, [], ◌∷◌, length, get_or, map, drop, set, Option, Some}
+use Rattle.std.proofs.Common.{None, All, add-one}
 use Rattle.std.proofs.Math.Seq.{drop-cons}
 use Rattle.std.proofs.Math.ListN.{drop_of_length-le}
 use Rattle.std.proofs.lemmas.Bool.{eqb-true}
@@ -55,7 +57,10 @@ bool_or_assoc : (a b c : Bool) → (a || b) || c ≡ a || (b || c)
 bool_or_assoc true b c = refl
 bool_or_assoc false b c = refl
 
-pub number_kept : (xs : List (Option Dec)) (r : ℕ) (v : Dec) (old new : Option Dec) → r < length xs → old ≡ get_or xs r old → new ≡ option_or old (Some v) → (i : ℕ) (rest : List (Entry Dec)) → i < length xs → option_or (get_or (set xs r new) i None) (at_row i rest) ≡ option_or (get_or xs i None) (at_row {V = Dec} i (record { row = r; value = v } ∷ rest))
+pub number_kept : (xs : List (Option Dec)) (r : ℕ) (v : Dec) (old new : Option Dec) → r < length xs
+    → old ≡ get_or xs r old → new ≡ option_or old (Some v) → (i : ℕ) (rest : List (Entry Dec)) → i < length xs
+    → option_or (get_or (set xs r new) i None) (at_row i rest)
+    ≡ option_or (get_or xs i None) (at_row {V = Dec} i (record { row = r; value = v } ∷ rest))
 unfolding at_row
 number_kept xs r v old new lt is made i rest within = by (nat_eq r i) refl
   where
@@ -99,7 +104,9 @@ module _ (c n : ColumnSides) (k : BoundKind) (v : Dec) (sides : sides_value n �
       let set = sides_set j values in
       ap (λ b. (first_sides (sides_value d) (cond b (first_sides (sets k (dec_value v)) set) set), d.whole || ((b && makes_whole k) || has_whole_record j values))) (sym e)
 
-  pub record_kept : (xs : List ColumnSides) (r : ℕ) → r < length xs → c ≡ get_or xs r c → (j : ℕ) (rest : List (Bound Dec)) → j < length xs → with_sets (get_or (set xs r n) j none_set) j rest ≡ with_sets (get_or xs j none_set) j (record { kind = k; column = r; value = v } ∷ rest)
+  pub record_kept : (xs : List ColumnSides) (r : ℕ) → r < length xs → c ≡ get_or xs r c
+      → (j : ℕ) (rest : List (Bound Dec)) → j < length xs → with_sets (get_or (set xs r n) j none_set) j rest
+      ≡ with_sets (get_or xs j none_set) j (record { kind = k; column = r; value = v } ∷ rest)
   record_kept xs r lt is j rest within = by (nat_eq r j) refl
     where
       by : (b : Bool) → nat_eq r j ≡ b → with_sets (get_or (set xs r n) j none_set) j rest ≡ with_sets (get_or xs j none_set) j (record { kind = k; column = r; value = v } ∷ rest)

@@ -1,7 +1,7 @@
 -- Differences of rational numbers.
 use Rattle.std.proofs.Common.{subst}
-use Rattle.fractions.specs.Rational.{ℚ, zero_ℚ, neg_ℚ, ◌≤ℚ◌}
-use Rattle.fractions.proofs.Arithmetic.{neg-≤ℚ, neg_zero}
+use Rattle.exact_numbers.specs.Rational.{ℚ, zero_ℚ, neg_ℚ, ◌≤ℚ◌}
+use Rattle.exact_numbers.proofs.RationalLaws.{neg-≤ℚ, neg_zero}
 
 pub neg_below : (x : ℚ) → zero_ℚ ≤ℚ x → neg_ℚ x ≤ℚ zero_ℚ
 neg_below x h = subst (λ z. neg_ℚ x ≤ℚ z) neg_zero (neg-≤ℚ zero_ℚ x h)

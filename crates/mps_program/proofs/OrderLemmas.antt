@@ -7,9 +7,9 @@ use Rattle.std.specs.Option.{option_map}
 use Rattle.std.specs.Ordering.{MatchOrdering, is_gt}
 use Rattle.std.specs.declared.cmp.Ordering.{Ordering}
 use Rattle.std.specs.declared.cmp.Ordering.TheVariants.{Less, Equal, Greater}
-use Rattle.fractions.specs.Rational.{ℚ, zero_ℚ, ◌+ℚ◌, neg_ℚ, ◌≤ℚ◌, ◌<ℚ◌}
-use Rattle.fractions.proofs.Arithmetic.{≤ℚ_refl, ≤ℚ_by, ≤ℚ_of_<ℚ, le_or_lt, not_both, +ℚ-≤ℚ, +ℚ_comm, zero-+ℚ, -ℚ_lem}
-use Rattle.program_meaning.specs.Linear.{Interval}
+use Rattle.exact_numbers.specs.Rational.{ℚ, zero_ℚ, ◌+ℚ◌, neg_ℚ, ◌≤ℚ◌, ◌<ℚ◌}
+use Rattle.exact_numbers.proofs.RationalLaws.{≤ℚ_refl, ≤ℚ_by, ≤ℚ_of_<ℚ, le_or_lt, not_both, +ℚ-≤ℚ, +ℚ_comm, zero-+ℚ, -ℚ_lem}
+use Rattle.linear_program.specs.Linear.{Interval}
 use Rattle.exact_numbers.specs.declared.dec.Dec.{Dec}
 use Rattle.exact_numbers.specs.Values.{dec_value, order_of}
 use Rattle.linear_program.specs.Intervals.{interval_of, AreOrdered, IsOrdered}
@@ -69,7 +69,10 @@ row_rising E b (Some r) =
     (le_or_lt zero_ℚ r)
   where
     Rises : Bool → Type 0
-    Rises n = IsRising (cond {A = Interval} n (record { lower = Some (b +ℚ r); upper = Some b }) (record { lower = Some b; upper = Some (b +ℚ r) })).lower (cond {A = Interval} n (record { lower = Some (b +ℚ r); upper = Some b }) (record { lower = Some b; upper = Some (b +ℚ r) })).upper
+    Rises n = IsRising (cond {A = Interval} n (record { lower = Some (b +ℚ r); upper = Some b })
+        (record { lower = Some b; upper = Some (b +ℚ r) })).lower
+        (cond {A = Interval} n (record { lower = Some (b +ℚ r); upper = Some b })
+        (record { lower = Some b; upper = Some (b +ℚ r) })).upper
 
 pub row_ordered : (m : Mps Dec) (i : ℕ) → is_row_wide m i ≡ false → IsOrdered (sides_from (row_interval (values_of m) i))
 unfolding with_values
@@ -77,7 +80,9 @@ row_ordered m i clean =
     let kind = (get_or m.rows i no_mps_row).kind in
     let b = rhs_at (values_of m) i in
     let range = at_row i (values_of m).ranges in
-    ordered_by (sides_from (row_sides kind b range)) (subst (λ (s : Interval). IsRising s.lower s.upper) (sym (sides_back (row_sides kind b range) (row_fits kind b range (rhs_fits i m.rhs) clean))) (row_rising kind b range))
+    ordered_by (sides_from (row_sides kind b range)) (subst (λ (s : Interval). IsRising s.lower s.upper)
+    (sym (sides_back (row_sides kind b range) (row_fits kind b range (rhs_fits i m.rhs) clean)))
+    (row_rising kind b range))
 
 -- ---- columns
 column_rising : (l u : Option ℚ) → both_sides is_gt l u ≡ false → IsRising l u
@@ -85,7 +90,9 @@ column_rising None u e = tt
 column_rising (Some l) None e = tt
 column_rising (Some l) (Some u) e = by (order_of l u) (int_ranks (l.top *ℤ pos u.bottom) (u.top *ℤ pos l.bottom)) e
   where
-    by : (o : Ordering) → MatchOrdering o ((l.top *ℤ pos u.bottom) <ℤ (u.top *ℤ pos l.bottom)) ((l.top *ℤ pos u.bottom) ≡ (u.top *ℤ pos l.bottom)) ((u.top *ℤ pos l.bottom) <ℤ (l.top *ℤ pos u.bottom)) → is_gt o ≡ false → l ≤ℚ u
+    by : (o : Ordering) → MatchOrdering o ((l.top *ℤ pos u.bottom) <ℤ (u.top *ℤ pos l.bottom))
+        ((l.top *ℤ pos u.bottom) ≡ (u.top *ℤ pos l.bottom)) ((u.top *ℤ pos l.bottom) <ℤ (l.top *ℤ pos u.bottom))
+        → is_gt o ≡ false → l ≤ℚ u
     by Less h f = record { crosswise = omega (arith, ints, h) }
     by Equal h f = record { crosswise = omega (arith, ints, h) }
     by Greater h f = let r = f in cc

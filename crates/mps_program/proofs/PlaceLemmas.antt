@@ -1,11 +1,12 @@
 -- Places that pass a test, and their parting by two tests.
-use Rattle.std.proofs.Common.{◌≡◌, ℕ, zero, suc, ◌+◌, ◌<◌, ◌∙◌, sym, ap, ap₂, refl, subst, arith, Bool, true, false, not, ◌&&◌, List, [], ◌∷◌, ◌++◌, length, All, None, if◌then◌else◌, ⊎_elim, add-one, ◌≤◌}
+use Rattle.std.proofs.Common.{◌≡◌, ℕ, zero, suc, ◌+◌, ◌<◌, ◌∙◌, sym, ap, ap₂, refl, subst, arith, Bool, true, false}
+use Rattle.std.proofs.Common.{not, ◌&&◌, List, [], ◌∷◌, ◌++◌, length, All, None, if◌then◌else◌, ⊎_elim, add-one, ◌≤◌}
 use Rattle.std.proofs.lemmas.List.{length-append, get_or_append_left, get_or-append-add}
 use Rattle.std.proofs.lemmas.List.Elements.{All-append}
-use Rattle.fractions.specs.Rational.{ℚ, zero_ℚ, ◌+ℚ◌}
-use Rattle.fractions.specs.Sums.{sum_over, sum_below}
-use Rattle.fractions.proofs.Arithmetic.{+ℚ_zero, zero-+ℚ}
-use Rattle.fractions.proofs.Adding.{+ℚ_swap, sum_over-append}
+use Rattle.exact_numbers.specs.Rational.{ℚ, zero_ℚ, ◌+ℚ◌}
+use Rattle.exact_numbers.specs.Sums.{sum_over, sum_below}
+use Rattle.exact_numbers.proofs.RationalLaws.{+ℚ_zero, zero-+ℚ}
+use Rattle.exact_numbers.proofs.Adding.{+ℚ_swap, sum_over-append}
 use Rattle.mps_program.specs.Places.{places, first}
 use Rattle.std.proofs.lemmas.Bool.{cases_Bool, cases_lt}
 
@@ -44,7 +45,9 @@ module _ (P : ℕ → Type 0) where
     at_places (suc n) h j lt e =
         ⊎_elim
         (λ (below : j < n). at_places n (All_left (places test n) (one_where (test n) n) h) j below e)
-        (λ (above : n ≤ j). let same : j ≡ n = omega (arith, above, lt) in subst P (sym same) (one_All (test n) n (subst (λ k. test k ≡ true) same e) (All_right (places test n) (one_where (test n) n) h)))
+        (λ (above : n ≤ j). let same : j ≡ n = omega (arith, above, lt) in
+        subst P (sym same) (one_All (test n) n (subst (λ k. test k ≡ true) same e)
+        (All_right (places test n) (one_where (test n) n) h)))
         (cases_lt j n)
 
 none_first : (xs : List ℕ) → first xs ≡ None → All (λ j. ⊥) xs
@@ -109,8 +112,12 @@ module _ (w z : ℕ → Bool) where
   unfolding places sum_over sum_below
   parts_sum g zero = ap (λ v. zero_ℚ +ℚ v) (+ℚ_zero zero_ℚ) ∙ +ℚ_zero zero_ℚ
   parts_sum g (suc n) =
-      ap₂ ◌+ℚ◌ (sum_over-append g (first_part n) (one_where (not (w n)) n)) (ap₂ ◌+ℚ◌ (sum_over-append g (second_part n) (one_where (w n && z n) n)) (sum_over-append g (third_part n) (one_where (w n && not (z n)) n)))
-      ∙ swap_three (sum_over g (first_part n)) (sum_over g (one_where (not (w n)) n)) (sum_over g (second_part n)) (sum_over g (one_where (w n && z n) n)) (sum_over g (third_part n)) (sum_over g (one_where (w n && not (z n)) n))
+      ap₂ ◌+ℚ◌ (sum_over-append g (first_part n) (one_where (not (w n)) n))
+      (ap₂ ◌+ℚ◌ (sum_over-append g (second_part n) (one_where (w n && z n) n))
+      (sum_over-append g (third_part n) (one_where (w n && not (z n)) n)))
+      ∙ swap_three (sum_over g (first_part n)) (sum_over g (one_where (not (w n)) n)) (sum_over g (second_part n))
+      (sum_over g (one_where (w n && z n) n)) (sum_over g (third_part n))
+      (sum_over g (one_where (w n && not (z n)) n))
       ∙ ap₂ ◌+ℚ◌ (parts_sum g n) (sum_of_three g (w n) (z n) n)
 
   abbrev pub parted : ℕ → List ℕ

@@ -2,13 +2,13 @@
 use Rattle.std.proofs.Common.{◌≡◌, ℕ, zero, suc, ◌<◌, ◌≤◌, ◌^◌, ◌∙◌, sym, ap, ap₂, refl, subst, arith, Bool, true, false, not, ◌&&◌, List, ◌∷◌, length, map, All, None}
 use Rattle.std.proofs.lemmas.Bool.{or_parts}
 use Rattle.std.proofs.lemmas.List.{length-map, ext_get_or}
-use Rattle.fractions.specs.Fits.{fits}
-use Rattle.fractions.specs.Rational.{neg_ℚ}
+use Rattle.exact_numbers.specs.Fits.{fits}
+use Rattle.exact_numbers.specs.Rational.{neg_ℚ}
 use Rattle.exact_numbers.specs.declared.dec.Dec.{Dec}
 use Rattle.exact_numbers.specs.Values.{dec_value}
-use Rattle.program_meaning.specs.Elements.{elements_from}
-use Rattle.program_meaning.specs.Linear.{Variable}
-use Rattle.program_meaning.proofs.Elements.{elements_length, elements_at}
+use Rattle.linear_program.specs.Elements.{elements_from}
+use Rattle.linear_program.specs.Linear.{Variable}
+use Rattle.linear_program.proofs.Elements.{elements_length, elements_at}
 use Rattle.linear_program.specs.Intervals.{interval_of, is_whole_kind, IsOrdered}
 use Rattle.linear_program.specs.Programs.{LinearValue, IsLinear, rows_from, variables_from, linear_value}
 use Rattle.linear_program.specs.declared.form.Form.{Form}

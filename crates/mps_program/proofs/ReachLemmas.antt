@@ -1,12 +1,12 @@
 -- The other side of a row with a range.
 use Rattle.std.proofs.Common.{◌≡◌, ◌↔◌, ◌∙◌, sym, ap, ap₂, refl, subst, arith, pos, int_lt, ◌<ℤ◌, Bool, true, false, IsTrue, ◌&&◌, cond, Option, Some, None, MatchOption}
-use Rattle.fractions.specs.Rational.{ℚ, zero_ℚ, ◌+ℚ◌, ◌<ℚ◌}
-use Rattle.fractions.specs.Fits.{fits, sum_fits}
-use Rattle.fractions.proofs.Arithmetic.{zero_value, -ℚ_lem}
-use Rattle.fractions.proofs.Values.{own_value, lt_value, value_lt}
+use Rattle.exact_numbers.specs.Rational.{ℚ, zero_ℚ, ◌+ℚ◌, ◌<ℚ◌}
+use Rattle.exact_numbers.specs.Fits.{fits, sum_fits}
+use Rattle.exact_numbers.proofs.RationalLaws.{zero_value, -ℚ_lem}
+use Rattle.exact_numbers.proofs.Values.{own_value, lt_value, value_lt}
 use Rattle.std.proofs.lemmas.Int.{ints}
 use Rattle.std.proofs.lemmas.Bool.{false_from_ne_true}
-use Rattle.program_meaning.specs.Linear.{Interval}
+use Rattle.linear_program.specs.Linear.{Interval}
 use Rattle.exact_numbers.specs.declared.dec.Dec.{Dec}
 use Rattle.exact_numbers.specs.Values.{dec_value, FitsDec, fits_dec}
 use Rattle.exact_numbers.proofs.Spelling.{fits_dec_in, fits_dec_out}
@@ -20,11 +20,18 @@ use Rattle.exact_numbers.proofs.Fitting.{dec_fits}
 reach_is : (kind : RowKind) (b w : ℚ) → fits b ≡ true → fits w ≡ true → sum_fits b (range_step kind w) ≡ true → is_in_reach kind b w ≡ fits_dec (b +ℚ range_step kind w)
 reach_is kind b w p q s = λ i. p i && q i && s i && fits_dec (b +ℚ range_step kind w)
 
-as_decimal : (r : Option Dec) (kind : RowKind) (b w z : ℚ) → is_in_reach kind b w ≡ fits_dec (b +ℚ range_step kind w) → z ≡ b +ℚ range_step kind w → MatchOption r (FitsDec z → ⊥) (λ d. dec_value d ≡ z) → MatchOption r (is_in_reach kind b w ≡ false) (λ d. (is_in_reach kind b w ≡ true) × (dec_value d ≡ b +ℚ range_step kind w))
+as_decimal : (r : Option Dec) (kind : RowKind) (b w z : ℚ) → is_in_reach kind b w ≡ fits_dec (b +ℚ range_step kind w)
+    → z ≡ b +ℚ range_step kind w → MatchOption r (FitsDec z → ⊥) (λ d. dec_value d ≡ z)
+    → MatchOption r (is_in_reach kind b w ≡ false) (λ d. (is_in_reach kind b w ≡ true)
+    × (dec_value d ≡ b +ℚ range_step kind w))
 as_decimal None kind b w z e same h = e ∙ false_from_ne_true (fits_dec (b +ℚ range_step kind w)) (λ t. h (subst FitsDec (sym same) (fits_dec_out (b +ℚ range_step kind w) t)))
 as_decimal (Some d) kind b w z e same h = (e ∙ fits_dec_in (b +ℚ range_step kind w) (subst FitsDec (h ∙ same) (dec_fits d)), h ∙ same)
 
-pub reached : (r : Option Dec) (kind : RowKind) (b w side width step sum : ℚ) → ((fits b ≡ true) × (side ≡ b)) → ((fits w ≡ true) × (width ≡ w)) → step ≡ range_step kind width → ((sum_fits side step ≡ true) × (sum ≡ side +ℚ step)) → MatchOption r (FitsDec sum → ⊥) (λ d. dec_value d ≡ sum) → MatchOption r (is_in_reach kind b w ≡ false) (λ d. (is_in_reach kind b w ≡ true) × (dec_value d ≡ b +ℚ range_step kind w))
+pub reached : (r : Option Dec) (kind : RowKind) (b w side width step sum : ℚ) → ((fits b ≡ true) × (side ≡ b))
+    → ((fits w ≡ true) × (width ≡ w)) → step ≡ range_step kind width
+    → ((sum_fits side step ≡ true) × (sum ≡ side +ℚ step)) → MatchOption r (FitsDec sum → ⊥) (λ d. dec_value d ≡ sum)
+    → MatchOption r (is_in_reach kind b w ≡ false) (λ d. (is_in_reach kind b w ≡ true)
+    × (dec_value d ≡ b +ℚ range_step kind w))
 reached r kind b w side width step sum p q s t h =
     let same_step = s ∙ ap (range_step kind) q.1 in
     as_decimal r kind b w sum (reach_is kind b w p.0 q.0 (sym (ap₂ sum_fits p.1 same_step) ∙ t.0)) (t.1 ∙ ap₂ ◌+ℚ◌ p.1 same_step) h

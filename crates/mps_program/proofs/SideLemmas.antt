@@ -3,10 +3,10 @@ use Rattle.std.proofs.Common.{◌≡◌, ℕ, ◌∙◌, sym, ap, ap₂, refl, s
 use Rattle.std.proofs.lemmas.Bool.{cond_both, not-false, and_parts}
 use Rattle.std.specs.Option.{option_map}
 use Rattle.std.specs.Prelude.{option_and_then}
-use Rattle.fractions.specs.Rational.{ℚ, zero_ℚ, ◌+ℚ◌, decimal_value}
-use Rattle.fractions.specs.Fits.{fits, sum_fits}
-use Rattle.fractions.proofs.Arithmetic.{ -ℚ_lem}
-use Rattle.program_meaning.specs.Linear.{Interval}
+use Rattle.exact_numbers.specs.Rational.{ℚ, zero_ℚ, ◌+ℚ◌, decimal_value}
+use Rattle.exact_numbers.specs.Fits.{fits, sum_fits}
+use Rattle.exact_numbers.proofs.RationalLaws.{ -ℚ_lem}
+use Rattle.linear_program.specs.Linear.{Interval}
 use Rattle.exact_numbers.specs.Values.{dec_value, decimal_of, FitsDec, fits_dec}
 use Rattle.exact_numbers.specs.declared.dec.Dec.{Dec}
 use Rattle.exact_numbers.proofs.Fitting.{dec_fits, one_fits, zero_fits}
@@ -16,7 +16,9 @@ use Rattle.mps_model.specs.declared.kinds.RowKind.{RowKind}
 use Rattle.mps_model.specs.declared.kinds.RowKind.TheVariants.{N, L, G, E}
 use Rattle.mps_model.specs.declared.kinds.BoundKind.{BoundKind}
 use Rattle.mps_model.specs.declared.kinds.BoundKind.TheVariants.{Lo, Up, Fx, Bv, Li, Ui}
-use Rattle.mps_model.specs.Mps.{Entry, Bound, entry_with, bound_with, at_row, or_zero, row_sides, is_negative, size_of, Side, Unset, Open, At, SetSides, sets, first_side, sides_set, lower_side, upper_side, interval_set}
+use Rattle.mps_model.specs.Mps.{Entry, Bound, entry_with, bound_with, at_row, or_zero, row_sides, is_negative, size_of}
+use Rattle.mps_model.specs.Mps.{Side, Unset, Open, At, SetSides, sets, first_side, sides_set, lower_side, upper_side}
+use Rattle.mps_model.specs.Mps.{interval_set}
 use Rattle.linear_program.specs.Intervals.{interval_of}
 use Rattle.exact_numbers.specs.Numbers.{dec_from}
 use Rattle.exact_numbers.proofs.NumberLemmas.{dec_from-value, dec_from-fits}

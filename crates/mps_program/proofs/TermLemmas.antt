@@ -1,15 +1,18 @@
 -- The terms of rows: how they are put together, their order and their coefficients, and how many there are.
-use Rattle.std.proofs.Common.{◌≡◌, ◌≢◌, ℕ, zero, suc, ◌+◌, ◌<◌, ◌≤◌, ◌∙◌, sym, ap, ap₂, refl, subst, arith, Bool, true, false, cond, not, nat_eq, ◌&&◌, ◌||◌, if◌then◌else◌, List, [], ◌∷◌, ◌++◌, length, get_or, get_or-set_same, get_or-set_other, set, map, drop, Some, None, All, AllPairs, ⊎_elim, ◌⊎◌, inl, inr, add-one, append-nil, append_assoc}
+use Rattle.std.proofs.Common.{◌≡◌, ◌≢◌, ℕ, zero, suc, ◌+◌, ◌<◌, ◌≤◌, ◌∙◌, sym, ap, ap₂, refl, subst, arith, Bool, true}
+use Rattle.std.proofs.Common.{false, cond, not, nat_eq, ◌&&◌, ◌||◌, if◌then◌else◌, List, [], ◌∷◌, ◌++◌, length, get_or}
+use Rattle.std.proofs.Common.{get_or-set_same, get_or-set_other, set, map, drop, Some, None, All, AllPairs, ⊎_elim, ◌⊎◌}
+use Rattle.std.proofs.Common.{inl, inr, add-one, append-nil, append_assoc}
 use Rattle.std.proofs.lemmas.Bool.{eqb-true, ne_eqb, or_parts, not-false}
 use Rattle.std.proofs.lemmas.List.{length-append, ext_get_or}
 use Rattle.std.proofs.lemmas.List.Elements.{All-head, All-tail}
 use Rattle.std.proofs.lemmas.List.Sums.{sum_by-cons}
 use Rattle.std.proofs.Math.ListN.{get_or-map as get_or-map-any}
 use Rattle.std.specs.List.{sum_by, filter_map, cons_option}
-use Rattle.fractions.specs.Rational.{ℚ, zero_ℚ, one_ℚ, ◌+ℚ◌, ◌*ℚ◌}
-use Rattle.fractions.specs.Fits.{fits}
-use Rattle.fractions.specs.Sums.{sum_over}
-use Rattle.fractions.proofs.Arithmetic.{*ℚ_one, +ℚ_zero, zero-+ℚ}
+use Rattle.exact_numbers.specs.Rational.{ℚ, zero_ℚ, one_ℚ, ◌+ℚ◌, ◌*ℚ◌}
+use Rattle.exact_numbers.specs.Fits.{fits}
+use Rattle.exact_numbers.specs.Sums.{sum_over}
+use Rattle.exact_numbers.proofs.RationalLaws.{*ℚ_one, +ℚ_zero, zero-+ℚ}
 use Rattle.exact_numbers.specs.declared.dec.Dec.{Dec}
 use Rattle.exact_numbers.specs.Values.{dec_value}
 use Rattle.linear_program.specs.Coefs.{coef_in, value_or_zero}
@@ -65,12 +68,15 @@ pub record GivesOne (i j : ℕ) (es : List (Entry Dec)) : Type 0 where
   pub some : dec_value number ≢ zero_ℚ
   pub part : part_of_row i (values es) one_ℚ ≡ dec_value number
 
-first_part : (i j : ℕ) (e : Entry Dec) (es : List (Entry Dec)) (b : Bool) → nat_eq e.row i ≡ b → part_of_row i (values (e ∷ es)) one_ℚ ≡ cond b (dec_value e.value) zero_ℚ +ℚ part_of_row i (values es) one_ℚ
+first_part : (i j : ℕ) (e : Entry Dec) (es : List (Entry Dec)) (b : Bool) → nat_eq e.row i ≡ b
+    → part_of_row i (values (e ∷ es)) one_ℚ ≡ cond b (dec_value e.value) zero_ℚ +ℚ part_of_row i (values es) one_ℚ
 unfolding part_of_row sum_over
 first_part i j e es true h = ap (λ b. cond b (dec_value e.value *ℚ one_ℚ) zero_ℚ +ℚ part_of_row i (values es) one_ℚ) h ∙ ap (λ x. x +ℚ part_of_row i (values es) one_ℚ) (*ℚ_one (dec_value e.value))
 first_part i j e es false h = ap (λ b. cond b (dec_value e.value *ℚ one_ℚ) zero_ℚ +ℚ part_of_row i (values es) one_ℚ) h
 
-first_term : (i j : ℕ) (e : Entry Dec) (es : List (Entry Dec)) (b z : Bool) → nat_eq e.row i ≡ b → is_zero_dec e.value ≡ z → filter_map (term_of i j) (e ∷ es) ≡ cons_option (if b && not z then Some (j, e.value) else None) (filter_map (term_of i j) es)
+first_term : (i j : ℕ) (e : Entry Dec) (es : List (Entry Dec)) (b z : Bool) → nat_eq e.row i ≡ b
+    → is_zero_dec e.value ≡ z → filter_map (term_of i j) (e ∷ es)
+    ≡ cons_option (if b && not z then Some (j, e.value) else None) (filter_map (term_of i j) es)
 first_term i j e es b z h g = ap₂ (λ a c. cons_option (if a && not c then Some (j, e.value) else None) (filter_map (term_of i j) es)) h g
 
 -- no entry is in the row
@@ -153,8 +159,12 @@ module _ (n i : ℕ) where
   coefs p [] h f = λ q. ap (λ ts. coef_in (fraction_terms ts) (p + q)) (no_terms p) ∙ sym (no_part i)
   coefs p (c ∷ cs) h f =
       ⊎_elim
-      (λ (g : GivesNone i p c.entries). let e = terms_cons p c cs [] g.terms in subst (Coefs p (c ∷ cs)) (sym e) (after_none g (subst AllFit e f) (coefs (suc p) cs (rest_apart c cs h) (subst AllFit e f))))
-      (λ (g : GivesOne i p c.entries). let e = terms_cons p c cs ((p, g.number) ∷ []) g.terms in subst (Coefs p (c ∷ cs)) (sym e) (after_one g (subst AllFit e f) (coefs (suc p) cs (rest_apart c cs h) (subst AllFit e f).1)))
+      (λ (g : GivesNone i p c.entries). let e = terms_cons p c cs [] g.terms in
+      subst (Coefs p (c ∷ cs)) (sym e) (after_none g (subst AllFit e f)
+      (coefs (suc p) cs (rest_apart c cs h) (subst AllFit e f))))
+      (λ (g : GivesOne i p c.entries). let e = terms_cons p c cs ((p, g.number) ∷ []) g.terms in
+      subst (Coefs p (c ∷ cs)) (sym e) (after_one g (subst AllFit e f)
+      (coefs (suc p) cs (rest_apart c cs h) (subst AllFit e f).1)))
       (own p c cs h)
     where
       rest : List DecimalTerm
@@ -232,7 +242,9 @@ module _ (m : Mps Dec) where
     pub same : map entry_of es ≡ column.entries
     pub within : All (λ (e : Entry Dec). e.row < length m.rows) (map entry_of es)
 
-  pub entries_read : (j : ℕ) (cs : List (Column Dec)) (c : Column Dec) (es : List (ℕ × Dec)) → j < length cs → cs ≡ m.columns → c ≡ get_or cs j c → All (λ (x : Column Dec). AreEntries (length m.rows) x.entries) m.columns → map entry_of es ≡ c.entries → AreEntriesOf j es
+  pub entries_read : (j : ℕ) (cs : List (Column Dec)) (c : Column Dec) (es : List (ℕ × Dec)) → j < length cs
+      → cs ≡ m.columns → c ≡ get_or cs j c → All (λ (x : Column Dec). AreEntries (length m.rows) x.entries) m.columns
+      → map entry_of es ≡ c.entries → AreEntriesOf j es
   entries_read j cs c es inside columns is valid read =
       let lt : j < length m.columns = subst (λ (xs : List (Column Dec)). j < length xs) columns inside in
       let column : c ≡ get_or m.columns j c = is ∙ ap (λ xs. get_or xs j c) columns in
@@ -240,7 +252,8 @@ module _ (m : Mps Dec) where
         column = c;
         at = drop_is m.columns j c lt column;
         same = read;
-        within = subst (λ (xs : List (Entry Dec)). All (λ (e : Entry Dec). e.row < length m.rows) xs) (sym read) (fact_is m.columns j c lt column (λ (x : Column Dec). AreEntries (length m.rows) x.entries) valid).within;
+        within = subst (λ (xs : List (Entry Dec)). All (λ (e : Entry Dec). e.row < length m.rows) xs) (sym read)
+            (fact_is m.columns j c lt column (λ (x : Column Dec). AreEntries (length m.rows) x.entries) valid).within;
       }
 
   pub way_further : (j : ℕ) (es : List (ℕ × Dec)) (all new : List (List DecimalTerm)) → AreEntriesOf j es → AreOnTheirWay m j all → length new ≡ length all
@@ -261,7 +274,9 @@ module _ (m : Mps Dec) where
   way_ended j all end way =
       ext_get_or [] all (listed (row_terms m) (length m.rows)) (way.count ∙ sym (listed_length (row_terms m) (length m.rows)))
       (λ i lt. let inside : i < length m.rows = omega (arith, lt, way.count) in
-      sym (append-nil (get_or all i [])) ∙ ap (λ cs. get_or all i [] ++ terms_from i j cs) (sym (drop_all m.columns j end)) ∙ way.left i inside ∙ sym (listed_at (row_terms m) (length m.rows) i [] inside))
+      sym (append-nil (get_or all i [])) ∙ ap (λ cs. get_or all i [] ++ terms_from i j cs)
+      (sym (drop_all m.columns j end)) ∙ way.left i inside
+      ∙ sym (listed_at (row_terms m) (length m.rows) i [] inside))
 
 -- ---- how many terms there are
 module _ (rows : List MpsRow) where
@@ -289,7 +304,9 @@ module _ (rows : List MpsRow) where
       let some = not (is_zero_dec e.value) in
       omega (
         arith,
-        sum_more (λ i. length (filter_map (term_of i p) (e ∷ es))) (λ i. one_if (nat_eq e.row i && some)) (λ i. length (filter_map (term_of i p) es)) (λ i. term_more (p, e.value) (nat_eq e.row i && some) (filter_map (term_of i p) es)) (constraints rows),
+        sum_more (λ i. length (filter_map (term_of i p) (e ∷ es))) (λ i. one_if (nat_eq e.row i && some))
+            (λ i. length (filter_map (term_of i p) es)) (λ i. term_more (p, e.value) (nat_eq e.row i && some)
+            (filter_map (term_of i p) es)) (constraints rows),
         term_more (p, e.value) (nat_eq e.row obj && some) (filter_map (term_of obj p) es),
         once_or_not rows e.row some,
         at_most_one e.row some,
@@ -302,7 +319,9 @@ module _ (rows : List MpsRow) where
   columns_few p (c ∷ cs) =
       omega (
         arith,
-        sum_more (λ i. length (terms_from i p (c ∷ cs))) (λ i. length (filter_map (term_of i p) c.entries)) (λ i. length (terms_from i (suc p) cs)) (λ i. length-append (filter_map (term_of i p) c.entries) (terms_from i (suc p) cs)) (constraints rows),
+        sum_more (λ i. length (terms_from i p (c ∷ cs))) (λ i. length (filter_map (term_of i p) c.entries))
+            (λ i. length (terms_from i (suc p) cs)) (λ i. length-append (filter_map (term_of i p) c.entries)
+            (terms_from i (suc p) cs)) (constraints rows),
         length-append (filter_map (term_of obj p) c.entries) (terms_from obj (suc p) cs),
         column_few p c.entries,
         columns_few (suc p) cs,

@@ -1,6 +1,6 @@
 -- The decimal sides of an interval.
 use Rattle.std.specs.Prelude.{option_and_then}
-use Rattle.program_meaning.specs.Linear.{Interval}
+use Rattle.linear_program.specs.Linear.{Interval}
 use Rattle.exact_numbers.specs.Numbers.{dec_from}
 use Rattle.linear_program.specs.declared.interval.Interval.{Interval as Sides}
 

@@ -1,6 +1,6 @@
 -- A program with four rows, two of which are constraints, for any numbers.
 use Rattle.std.specs.Prelude.{ℕ, true, false, List, [], ◌∷◌, codes}
-use Rattle.fractions.specs.Rational.{ℚ}
+use Rattle.exact_numbers.specs.Rational.{ℚ}
 use Rattle.mps_model.specs.Mps.{MpsRow, Entry, Mps}
 use Rattle.mps_model.specs.declared.kinds.RowKind.TheVariants.{N, L, G}
 use Rattle.mps_model.specs.declared.kinds.BoundKind.TheVariants.{Up}

@@ -4,8 +4,8 @@ use Rattle.std.specs.Prelude.{ℕ, ◌^◌, nat_lt, Bool, false, not, ◌&&◌, 
 use Rattle.std.specs.Option.{option_map, option_or}
 use Rattle.std.specs.Ordering.{is_gt}
 use Rattle.std.specs.declared.cmp.Ordering.{Ordering}
-use Rattle.fractions.specs.Rational.{ℚ, zero_ℚ, neg_ℚ, ◌+ℚ◌}
-use Rattle.fractions.specs.Fits.{fits, sum_fits}
+use Rattle.exact_numbers.specs.Rational.{ℚ, zero_ℚ, neg_ℚ, ◌+ℚ◌}
+use Rattle.exact_numbers.specs.Fits.{fits, sum_fits}
 use Rattle.exact_numbers.specs.Values.{fits_dec, order_of}
 use Rattle.exact_numbers.specs.declared.dec.Dec.{Dec}
 use Rattle.mps_model.specs.Mps.{Mps, no_mps_row, at_row, rhs_at, size_of, column_interval, objective_row}

@@ -1,6 +1,6 @@
 -- The forms that terms of rows become.
 use Rattle.std.specs.Prelude.{◌≡◌, ◌≢◌, ℕ, suc, ◌+◌, ◌<◌, ◌≤◌, true, false, List, [], ◌∷◌, length, get_or, Option, Some, None}
-use Rattle.fractions.specs.Rational.{ℚ, zero_ℚ, neg_ℚ}
+use Rattle.exact_numbers.specs.Rational.{ℚ, zero_ℚ, neg_ℚ}
 use Rattle.exact_numbers.specs.Values.{dec_value}
 use Rattle.linear_program.specs.Decimals.{DecimalTerm, fraction_terms}
 use Rattle.linear_program.specs.Forms.{form_line, form_terms, parts_line}

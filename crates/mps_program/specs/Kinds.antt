@@ -2,7 +2,7 @@
 -- values 0 and 1.
 use Rattle.std.specs.Prelude.{ℕ, Bool, false, cond, ◌&&◌, List, length, Option, Some, None}
 use Rattle.std.specs.Ordering.{is_ge, is_le}
-use Rattle.fractions.specs.Rational.{ℚ, zero_ℚ, one_ℚ}
+use Rattle.exact_numbers.specs.Rational.{ℚ, zero_ℚ, one_ℚ}
 use Rattle.exact_numbers.specs.declared.dec.Dec.{Dec}
 use Rattle.exact_numbers.specs.Values.{order_of}
 use Rattle.linear_program.specs.declared.kind.Kind.{Kind}

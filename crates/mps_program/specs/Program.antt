@@ -1,10 +1,10 @@
 -- The linear program that an MPS program is, in its own numbering: constraint k is the k-th row
 -- that is no N row, variable j is column j, the objective is the first N row.
 use Rattle.std.specs.Prelude.{ℕ, suc, Bool, true, false, List, [], ◌∷◌, length, get_or}
-use Rattle.fractions.specs.Rational.{ℚ, zero_ℚ, one_ℚ, neg_ℚ}
-use Rattle.program_meaning.specs.Elements.{elements_from}
-use Rattle.program_meaning.specs.Linear.{Form, Row, Variable, Linear}
-use Rattle.program_meaning.specs.Names.{row_name, variable_name}
+use Rattle.exact_numbers.specs.Rational.{ℚ, zero_ℚ, one_ℚ, neg_ℚ}
+use Rattle.linear_program.specs.Elements.{elements_from}
+use Rattle.linear_program.specs.Linear.{Form, Row, Variable, Linear}
+use Rattle.linear_program.specs.Names.{row_name, variable_name}
 use Rattle.exact_numbers.specs.Values.{dec_value}
 use Rattle.exact_numbers.specs.declared.dec.Dec.{Dec}
 use Rattle.mps_model.specs.Mps.{MpsRow, Mps, with_values, no_mps_row, column_at, part_of_row, rhs_at, row_interval, column_interval, is_whole_column, objective_row}

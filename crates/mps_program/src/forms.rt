@@ -4,7 +4,7 @@ ghost use Rattle.std.specs.Option.{option_map, option_or};
 ghost use Rattle.exact_numbers.specs.Values.{dec_value};
 ghost use Rattle.mps_model.specs.Mps.{objective_row};
 ghost use Rattle.mps_model.specs.Valid.{IsMps};
-ghost use Rattle.texts.specs.Stopped.{IfFault};
+ghost use Rattle.text_base.specs.Stopped.{IfFault};
 ghost use Rattle.mps_program.specs.Faults.{first_wide_body, is_body_wide, is_objective_wide, wide_objective};
 ghost use Rattle.mps_program.specs.InsideForms.{AreBodiesOf, AreTermsFrom, IsObjectiveOf};
 ghost use Rattle.mps_program.specs.Places.{listed, places};
@@ -16,11 +16,10 @@ use crate::mps_fault::MpsFault;
 use crate::rows::{is_bounded_kind, objective_row, right_side};
 use crate::terms::has_wide_term;
 use exact_numbers::{Dec, Frac};
-use linear_program::Form;
+use linear_program::{Buckets, Form, PartLists, part_end};
 use mps_model::Mps;
 use std::alloc::{AllocError, Global};
-use term_batches::{Batches, PartLists, part_end};
-use texts::Stop;
+use text_base::Stop;
 
 /// The forms of the constraints, in order, and that of the objective.
 #[derive(Drop)]
@@ -115,12 +114,12 @@ fn next_objective(
     Ok(found)
 }
 
-// The forms of rows whose terms are in batches: so many constraints, and the objective.
+// The forms of rows whose terms are in buckets: so many constraints, and the objective.
 pub(crate) fn forms_of(
     alloc: Global,
     mps: &Mps,
     count: usize,
-    mut terms: Batches,
+    mut terms: Buckets,
 ) -> Result<RowForms, Stop<MpsFault>>
     requires { terms ≡ listed (row_terms mps.now) (length mps.now.rows) }
     ensures bodies { IfOk result

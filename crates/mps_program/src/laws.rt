@@ -1,8 +1,8 @@
 // Each law is proved by a function with an empty body.
 ghost use Rattle.std.specs.Prelude.{◌≡◌, ◌↔◌, List, [], ◌∷◌, None, Some, false, map, true};
-ghost use Rattle.fractions.specs.Rational.{ℚ, neg_ℚ, zero_ℚ};
-ghost use Rattle.program_meaning.specs.Linear.{IsFeasible, IsLinear, objective_value, row_at};
-ghost use Rattle.program_meaning.specs.Names.{row_name};
+ghost use Rattle.exact_numbers.specs.Rational.{ℚ, neg_ℚ, zero_ℚ};
+ghost use Rattle.linear_program.specs.Linear.{IsFeasible, IsLinear, objective_value, row_at};
+ghost use Rattle.linear_program.specs.Names.{row_name};
 ghost use Rattle.mps_model.specs.Mps.{IsMpsFeasible, Mps, mps_objective, objective_row};
 ghost use Rattle.mps_program.specs.Example.{four_rows, two_columns};
 ghost use Rattle.mps_program.specs.Program.{constraints, linear_of};

@@ -5,7 +5,7 @@ ghost use Rattle.linear_program.specs.Programs.{linear_value};
 ghost use Rattle.exact_numbers.specs.Values.{dec_value};
 ghost use Rattle.mps_model.specs.Mps.{row_interval};
 ghost use Rattle.mps_model.specs.Valid.{IsMps, entry_count};
-ghost use Rattle.texts.specs.Stopped.{IfFault};
+ghost use Rattle.text_base.specs.Stopped.{IfFault};
 ghost use Rattle.mps_program.specs.Faults.{first_wide, is_too_large, mps_fault};
 ghost use Rattle.mps_program.specs.Decimals.{sides_from};
 ghost use Rattle.mps_program.specs.Kinds.{kinds_of};
@@ -21,7 +21,7 @@ use crate::variables::first_empty;
 use linear_program::{Interval, Linear};
 use mps_model::{Mps, MpsColumn};
 use std::alloc::Global;
-use texts::Stop;
+use text_base::Stop;
 
 // The most constraints and the most columns, and the most entries.
 const MOST_PLACES: u32 = 0x10_0000;

@@ -3,7 +3,7 @@ ghost use Rattle.std.specs.Prelude.{◌≡◌, ◌∷◌, [], ◌++◌, ◌+◌,
 ghost use Rattle.std.specs.Option.{option_map};
 ghost use Rattle.exact_numbers.specs.Values.{dec_value};
 ghost use Rattle.mps_model.specs.Mps.{at_row, objective_row, or_zero, rhs_at, row_interval, row_sides};
-ghost use Rattle.texts.specs.Stopped.{IfFault};
+ghost use Rattle.text_base.specs.Stopped.{IfFault};
 ghost use Rattle.mps_program.specs.Decimals.{sides_from};
 ghost use Rattle.mps_program.specs.Places.{one_if};
 ghost use Rattle.mps_program.specs.Faults.{first_wide, is_range_wide};
@@ -15,7 +15,7 @@ use exact_numbers::Dec;
 use linear_program::Interval;
 use mps_model::{Mps, MpsRow, RowKind};
 use std::alloc::{AllocError, Global};
-use texts::Stop;
+use text_base::Stop;
 
 /// Whether a row of this kind is a constraint.
 pub fn is_bounded_kind(kind: RowKind) -> bool

@@ -1,7 +1,7 @@
 // The sides that a row has by its kind, its right side and its range.
 ghost use Rattle.std.specs.Prelude.{◌≡◌, false, true, None, Some, MatchOption};
 ghost use Rattle.std.specs.Option.{option_map};
-ghost use Rattle.fractions.specs.Rational.{◌+ℚ◌};
+ghost use Rattle.exact_numbers.specs.Rational.{◌+ℚ◌};
 ghost use Rattle.exact_numbers.specs.Values.{dec_value, frac_value};
 ghost use Rattle.linear_program.specs.Intervals.{interval_of};
 ghost use Rattle.mps_model.specs.Mps.{row_sides, size_of};

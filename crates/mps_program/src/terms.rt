@@ -9,9 +9,9 @@ ghost use Rattle.mps_program.specs.Places.{listed};
 ghost use Rattle.mps_program.specs.Terms.{has_wide_term, is_zero_dec, row_terms, term_of};
 
 use exact_numbers::Dec;
+use linear_program::Buckets;
 use mps_model::Mps;
 use std::alloc::{AllocError, Global};
-use term_batches::Batches;
 
 /// Whether a number is 0.
 pub fn is_zero(value: Dec) -> bool
@@ -22,7 +22,7 @@ pub fn is_zero(value: Dec) -> bool
 
 // Sends the term of an entry of column j to its row.
 #[inline]
-fn send_term(terms: &mut Batches, column: u32, entry: (u32, Dec)) -> Result<(), AllocError>
+fn send_term(terms: &mut Buckets, column: u32, entry: (u32, Dec)) -> Result<(), AllocError>
     requires row { entry.0 < length terms.old }
     requires some { is_zero_dec entry.1 ≡ false }
     ensures count { OnOk result (length terms.new ≡ length terms.old) }
@@ -38,7 +38,7 @@ fn send_term(terms: &mut Batches, column: u32, entry: (u32, Dec)) -> Result<(), 
 
 // Sends the term of an entry of column j to its row, where it is not 0.
 #[inline]
-fn send_entry(terms: &mut Batches, column: u32, entry: (u32, Dec)) -> Result<(), AllocError>
+fn send_entry(terms: &mut Buckets, column: u32, entry: (u32, Dec)) -> Result<(), AllocError>
     requires { entry.0 < length terms.old }
     ensures count { OnOk result (length terms.new ≡ length terms.old) }
     ensures terms { OnOk result ((i : ℕ) (rest : List (Entry DecValue)) (after : List DecimalTerm)
@@ -54,7 +54,7 @@ fn send_entry(terms: &mut Batches, column: u32, entry: (u32, Dec)) -> Result<(),
 }
 
 // Sends the terms of the entries of column j to their rows.
-fn send_entries(terms: &mut Batches, column: u32, entries: &[(u32, Dec)]) -> Result<(), AllocError>
+fn send_entries(terms: &mut Buckets, column: u32, entries: &[(u32, Dec)]) -> Result<(), AllocError>
     requires { All (λ e. e.row < length terms.old) (map entry_of entries.now) }
     ensures count { OnOk result (length terms.new ≡ length terms.old) }
     ensures terms { OnOk result ((i : ℕ) (after : List DecimalTerm) → i < length terms.old
@@ -68,12 +68,12 @@ fn send_entries(terms: &mut Batches, column: u32, entries: &[(u32, Dec)]) -> Res
     Ok(())
 }
 
-// The terms of all rows, in batches of rows.
-pub(crate) fn terms_by_row(alloc: Global, mps: &Mps) -> Result<Batches, AllocError>
+// The terms of all rows, in buckets of rows.
+pub(crate) fn terms_by_row(alloc: Global, mps: &Mps) -> Result<Buckets, AllocError>
     ensures { IfOk result (λ b. b ≡ listed (row_terms mps.now) (length mps.now.rows)) }
 {
     let columns = mps.columns();
-    let mut terms = Batches::new(alloc, mps.rows().len())?;
+    let mut terms = Buckets::new(alloc, mps.rows().len())?;
     'columns: for j in 0..columns.len() {
         let column = &columns[j];
         send_entries(&mut terms, j as u32, column.entries())?;

@@ -1,7 +1,7 @@
 // The kinds of columns, and columns without a value.
 ghost use Rattle.std.specs.Prelude.{◌≡◌, ◌≤◌, ◌^◌, length, get_or};
 ghost use Rattle.std.specs.Ordering.{is_ge, is_gt, is_le};
-ghost use Rattle.fractions.specs.Rational.{one_ℚ, zero_ℚ};
+ghost use Rattle.exact_numbers.specs.Rational.{one_ℚ, zero_ℚ};
 ghost use Rattle.exact_numbers.specs.Values.{dec_value, order_of};
 ghost use Rattle.linear_program.specs.Intervals.{interval_of, no_sides};
 ghost use Rattle.mps_program.specs.Kinds.{are_zero_to_one, kind_by};

@@ -12,7 +12,9 @@ use Rattle.mps_reader.specs.Saying.{needs_number}
 use Rattle.mps_reader.proofs.FrontLines.{goes_on, line, next_taken, parted, row_there, with_number}
 
 -- a short name, and what stands behind it in a record
-pub found_number : (names : List (List ℕ)) (kind : BoundKind) (text behind rest : List ℕ) (place : ℕ) (value : Dec) → needs_number kind ≡ true → IsFound names text 32 place behind → IsNumberText behind value rest → IsColumnBound names kind text place value rest
+pub found_number : (names : List (List ℕ)) (kind : BoundKind) (text behind rest : List ℕ) (place : ℕ) (value : Dec)
+    → needs_number kind ≡ true → IsFound names text 32 place behind → IsNumberText behind value rest
+    → IsColumnBound names kind text place value rest
 found_number names kind text behind rest place value needs f n =
     record { name = f.name; bound = with_number kind text f.name value rest needs (record { number = behind; parts = f.parts; is_name = f.is_name; of_number = n }); at = f.at }
 

@@ -1,5 +1,7 @@
 -- Lines at the front of a piece that are taken at once.
-use Rattle.std.proofs.Common.{◌≡◌, ◌∙◌, ℕ, ◌+◌, ◌-◌, ◌<◌, ◌≤◌, ◌^◌, ◌&&◌, ◌==◌, not, true, false, inl, inr, List, [], ◌∷◌, ◌++◌, length, take, drop, get_or, Option, Some, None, Ok, refl, sym, ap, ap₂, subst, arith, append_assoc, length-append}
+use Rattle.std.proofs.Common.{◌≡◌, ◌∙◌, ℕ, ◌+◌, ◌-◌, ◌<◌, ◌≤◌, ◌^◌, ◌&&◌, ◌==◌, not, true, false, inl, inr, List, []}
+use Rattle.std.proofs.Common.{◌∷◌, ◌++◌, length, take, drop, get_or, Option, Some, None, Ok, refl, sym, ap, ap₂, subst}
+use Rattle.std.proofs.Common.{arith, append_assoc, length-append}
 use Rattle.std.specs.Prelude.{All, IfSome, nat_le}
 use Rattle.std.proofs.Math.Bool.{and-false}
 use Rattle.std.proofs.Math.Seq.{take-append_seam}
@@ -7,19 +9,19 @@ use Rattle.std.proofs.lemmas.List.{append-nil, length-map}
 use Rattle.std.proofs.lemmas.List.Elements.{All-cons}
 use Rattle.std.proofs.lemmas.Bool.Decides.{eqb_tells, nat_tests}
 use Rattle.std.specs.Str.{bytes_eq}
-use Rattle.texts.specs.declared.grammar.Front.{Front}
-use Rattle.texts.specs.Cut.{IsTextLine}
-use Rattle.texts.specs.Fronts.{IsFront, TakesFront}
-use Rattle.texts.specs.Judged.{Open, IsClean, first_reason, Takes}
-use Rattle.texts.specs.Names.{IsName}
-use Rattle.texts.specs.Words.{row_of, word_at}
-use Rattle.texts.proofs.FirstReasons.{takes_after}
-use Rattle.texts.proofs.FrontLemmas.{front_joined}
-use Rattle.texts.proofs.JudgedLemmas.{clean_more}
-use Rattle.texts.proofs.NamePlaces.{bytes_self, place_some}
+use Rattle.text_base.specs.declared.grammar.Front.{Front}
+use Rattle.text_base.specs.Cut.{IsTextLine}
+use Rattle.text_base.specs.Fronts.{IsFront, TakesFront}
+use Rattle.text_base.specs.Judged.{Open, IsClean, first_reason, Takes}
+use Rattle.text_base.specs.Names.{IsName}
+use Rattle.text_base.specs.Words.{row_of, word_at}
+use Rattle.text_base.proofs.FirstReasons.{takes_after}
+use Rattle.text_base.proofs.FrontLemmas.{front_joined}
+use Rattle.text_base.proofs.JudgedLemmas.{clean_more}
+use Rattle.text_base.proofs.NamePlaces.{bytes_self, place_some}
 use Rattle.exact_numbers.specs.Numbers.{dec_of}
 use Rattle.exact_numbers.specs.declared.dec.Dec.{Dec}
-use Rattle.texts.specs.WordLines.{indented, spaced}
+use Rattle.text_base.specs.WordLines.{indented, spaced}
 use Rattle.written_texts.proofs.LineLemmas.{text-line}
 use Rattle.mps_model.specs.declared.kinds.BoundKind.{BoundKind}
 use Rattle.mps_model.specs.Built.{CanAddBound, last_entries}
@@ -31,12 +33,17 @@ use Rattle.mps_reader.specs.Grammar.{line_tests, mps_rules, standing}
 use Rattle.mps_words.specs.InsideFronts.{IsPairText, joined}
 use Rattle.mps_reader.specs.InsideLines.{GoesOn, IsAfterHead, IsBoundText, IsColumnBound, IsFreeRow, IsHeadWord, IsKindText, IsNext, IsRowPair, SaysBound, TakesLines, held_after}
 use Rattle.mps_reader.specs.InsideHeld.{HasPairs, Held, IsKept, IsSound, MayPair, TakesSoundly, program}
-use Rattle.mps_reader.specs.InsideHeldSteps.{if_held_entry, with_bound, with_held_bound_line, with_held_column, with_held_column_line, with_held_entries, with_held_entry, with_held_pairs, with_held_sides, with_set}
+use Rattle.mps_reader.specs.InsideHeldSteps.{if_held_entry, with_bound, with_held_bound_line, with_held_column}
+use Rattle.mps_reader.specs.InsideHeldSteps.{with_held_column_line, with_held_entries, with_held_entry, with_held_pairs}
+use Rattle.mps_reader.specs.InsideHeldSteps.{with_held_sides, with_set}
 use Rattle.mps_reader.specs.InsidePairs.{CanGive}
 use Rattle.mps_reader.specs.Saying.{Draft, bound_in, bound_kind_of, bound_value, column_names, entry_in, is_current, last_name, needs_number, place_of, row_names}
 use Rattle.mps_words.specs.Sections.{is_data, is_left_out, last_of}
 use Rattle.mps_reader.specs.Steps.{after, after_data_in, after_words, set_after}
-use Rattle.mps_reader.specs.Tests.{Standing, Tests, bound_tests, column_name_tests, column_tests, data_tests, data_tests_in, entry_line_tests, has_entry, is_bad_set, is_free, is_full, is_refused_row, is_second_set, pair_tests, pairs_so_far, pairs_tests, set_tests, sets_again, side_tests}
+use Rattle.mps_reader.specs.Tests.{Standing, Tests, bound_tests, column_name_tests, column_tests, data_tests}
+use Rattle.mps_reader.specs.Tests.{data_tests_in, entry_line_tests, has_entry, is_bad_set, is_free, is_full}
+use Rattle.mps_reader.specs.Tests.{is_refused_row, is_second_set, pair_tests, pairs_so_far, pairs_tests, set_tests}
+use Rattle.mps_reader.specs.Tests.{sets_again, side_tests}
 use Rattle.mps_reader.proofs.BoundLemmas.{can_add_bound}
 use Rattle.mps_words.proofs.CodeLemmas.{name_is}
 use Rattle.mps_reader.proofs.DataLemmas.{Done, done_bound, done_columns, done_row, done_sense, done_sides, standing-sides, taken_in}
@@ -104,16 +111,22 @@ unfolding data_tests
 line_goes k h new line ws some is_data_line row last t =
     let s = h.standing in
     let tests : first_reason (line_tests s (is_data line) (row_of line)) ≡ None =
-    ap (λ b. first_reason (line_tests s b (row_of line))) is_data_line ∙ ap (λ (w : List (List ℕ)). first_reason (data_tests s w)) row ∙ subst (λ o. first_reason (data_tests_in s ws o) ≡ None) (sym last) t.0 in
+    ap (λ b. first_reason (line_tests s b (row_of line))) is_data_line
+    ∙ ap (λ (w : List (List ℕ)). first_reason (data_tests s w)) row
+    ∙ subst (λ o. first_reason (data_tests_in s ws o) ≡ None) (sym last) t.0 in
     let next : after_words s (is_data line) (row_of line) ≡ new.standing =
     ap (λ b. after_words s b (row_of line)) is_data_line ∙ ap (λ (w : List (List ℕ)). after_words s true w) row ∙ ap (after_data_in s ws) last ∙ sym t.1 in
     (judged s line some ∙ tests, sym (taken_after s line some ∙ next))
 
-next_sound : (k : Keyword) (h g new : Held) (text rest : List ℕ) (e : IsNext k h g text rest) → IsSound h → new ≡ g → IsKept new → TakesSoundly (data_tests_in h.standing e.words (Some k)) (after_data_in h.standing e.words (Some k)) (Ok tt) new
+next_sound : (k : Keyword) (h g new : Held) (text rest : List ℕ) (e : IsNext k h g text rest) → IsSound h → new ≡ g
+    → IsKept new → TakesSoundly (data_tests_in h.standing e.words (Some k)) (after_data_in h.standing e.words (Some k))
+    (Ok tt) new
 next_sound k h g new text rest e s is kept = taken_in k k h (held_after k h e.words) new e.words (Ok tt) refl (e.none, is ∙ e.is) kept (λ none. done_in k h e.words s e.current none)
 
 -- the next line is taken
-pub next_taken : (k : Keyword) (h g new : Held) (text rest : List ℕ) (len : ℕ) → IsNext k h g text rest → IsSound h → new ≡ g → IsKept new → len ≡ length text - length rest → TakesLines h text (record { len = len; lines = 1 }) new × IsSound new
+pub next_taken : (k : Keyword) (h g new : Held) (text rest : List ℕ) (len : ℕ) → IsNext k h g text rest → IsSound h
+    → new ≡ g → IsKept new → len ≡ length text - length rest → TakesLines h text (record { len = len; lines = 1 }) new
+    × IsSound new
 next_taken k h g new text rest len e s is kept size_is =
     let l = line k h g text rest e in
     let p = plain k h g text rest e in
@@ -150,12 +163,19 @@ not_free rows row e = λ same. absurd (cc (rw same at e))
 none_there : (k : Keyword) (h : Held) (row : ℕ) → MayPair k h → row < length (program h).rows → get_or h.marks row false ≡ false → has_entry (pairs_so_far k (program h)) row ≡ false
 none_there k h row may within unmarked = sym ((may.kept.marks k may.current may.pairs).marked row within) ∙ unmarked
 
-can_give : (k : Keyword) (h : Held) (row : ℕ) → MayPair k h → row < length (program h).rows → get_or h.marks row false ≡ false → is_full k (program h) ≡ false → is_refused_row k (program h) row ≡ false → CanGive k (program h) row
+can_give : (k : Keyword) (h : Held) (row : ℕ) → MayPair k h → row < length (program h).rows
+    → get_or h.marks row false ≡ false → is_full k (program h) ≡ false → is_refused_row k (program h) row ≡ false
+    → CanGive k (program h) row
 can_give Columns h row may within unmarked full bounded =
     let m : Mps Dec = program h in
     record { some = may.some refl; within = within; few = below (entry_count m.columns) (2 ^ 24) full; new = others (last_entries m.columns) row (none_there Columns h row may within unmarked) }
 can_give Rhs h row may within unmarked full bounded = record { within = within; new = others (program h).rhs row (none_there Rhs h row may within unmarked) }
-can_give Ranges h row may within unmarked full bounded = record { within = within; bounded = not_free (program h).rows row bounded; new = others (program h).ranges row (none_there Ranges h row may within unmarked) }
+can_give Ranges h row may within unmarked full bounded = record {
+  within = within;
+  bounded = not_free (program h).rows row bounded;
+  new =
+      others (program h).ranges row (none_there Ranges h row may within unmarked);
+}
 can_give k h row may within unmarked full bounded = absurd may.pairs
 
 -- the row of this name may have a pair more, whatever number it is
@@ -165,7 +185,8 @@ pub record MayGive (k : Keyword) (m : Mps Dec) (name : List ℕ) (row : ℕ) : T
   pub fine : (word : List ℕ) (value : Dec) → dec_of word ≡ Some value → first_reason (pair_tests k m name word) ≡ None
   pub entry : (word : List ℕ) (value : Dec) → dec_of word ≡ Some value → entry_in m name word ≡ Some (record { row = row; value = value })
 
-pub may_give : (k : Keyword) (h : Held) (name : List ℕ) (row : ℕ) → MayPair k h → place_of h.rows name ≡ Some row → IsFreeRow k h row → bytes_eq name marker_word ≡ false → MayGive k (program h) name row
+pub may_give : (k : Keyword) (h : Held) (name : List ℕ) (row : ℕ) → MayPair k h → place_of h.rows name ≡ Some row
+    → IsFreeRow k h row → bytes_eq name marker_word ≡ false → MayGive k (program h) name row
 unfolding pair_tests entry_in
 may_give k h name row may at free other =
     let m : Mps Dec = program h in
@@ -184,7 +205,9 @@ some_more None P Q f h = tt
 some_more (Some x) P Q f h = f x h
 
 -- a line of the last column
-pub of_column : (h : Held) (columns : List (List ℕ)) (text more rest : List ℕ) → IsKept h → columns ≡ h.columns → h.standing.draft.current ≡ true → text ≡ last_name columns ++ more → more ≡ 32 ∷ rest → IsName (last_name columns) → IsAfterHead Columns h text rest
+pub of_column : (h : Held) (columns : List (List ℕ)) (text more rest : List ℕ) → IsKept h → columns ≡ h.columns
+    → h.standing.draft.current ≡ true → text ≡ last_name columns ++ more → more ≡ 32 ∷ rest → IsName (last_name columns)
+    → IsAfterHead Columns h text rest
 of_column h columns text more rest kept held current parts second named =
     let name : List ℕ = last_name columns in
     let same : last_name (column_names (program h)) ≡ name = ap last_name (sym (held ∙ kept.columns)) in
@@ -251,7 +274,8 @@ side_taken k h set row word place value named held may says =
     let new = given k h place value in
     let fine : first_reason (set_tests h.standing.set set) ≡ None = rw (good_set set named, first_set h.standing.set set held) refl in
     takes_after (set_tests h.standing.set set) ts (with_held_sides k h (set ∷ ps)) new (Ok tt) fine
-    (takes_as ts ts (with_held_pairs k h ps) (with_held_sides k h (set ∷ ps)) (Ok tt) new refl (ap (λ g. with_held_pairs k g ps) (sym (same_set h set held))) (pair_taken k h row word place value may says))
+    (takes_as ts ts (with_held_pairs k h ps) (with_held_sides k h (set ∷ ps)) (Ok tt) new refl
+    (ap (λ g. with_held_pairs k g ps) (sym (same_set h set held))) (pair_taken k h row word place value may says))
 
 pair_says : (k : Keyword) (h : Held) (head row word : List ℕ) (place : ℕ) (value : Dec) → HasPairs k → IsName head → IsHeadWord k h head → MayGive k (program h) row place → dec_of word ≡ Some value
     → Takes (data_tests_in h.standing (head ∷ row ∷ word ∷ []) (Some k)) (held_after k h (head ∷ row ∷ word ∷ [])) (Ok tt) (given k h place value)
@@ -260,7 +284,8 @@ pair_says Rhs h head row word place value pairs named is may says = side_taken R
 pair_says Ranges h head row word place value pairs named is may says = side_taken Ranges h head row word place value named is may says
 pair_says k h head row word place value pairs named is may says = absurd pairs
 
-pub next_is_pair : (k : Keyword) (h : Held) (text line behind rest : List ℕ) (row : ℕ) (value : Dec) → MayPair k h → text ≡ 32 ∷ line → IsAfterHead k h line behind → IsRowPair h.rows behind row value rest → IsFreeRow k h row
+pub next_is_pair : (k : Keyword) (h : Held) (text line behind rest : List ℕ) (row : ℕ) (value : Dec) → MayPair k h
+    → text ≡ 32 ∷ line → IsAfterHead k h line behind → IsRowPair h.rows behind row value rest → IsFreeRow k h row
     → IsNext k h (given k h row value) text rest
 next_is_pair k h text line behind rest row value may first o p free =
     let n = p.pair.of_number in
@@ -270,7 +295,12 @@ next_is_pair k h text line behind rest row value may first o p free =
       words = o.name ∷ p.name ∷ n.word ∷ [];
       some = omega arith;
       few = omega arith;
-      line = record { parts = first ∙ ap (λ bs. 32 ∷ bs) (o.parts ∙ ap (λ bs. o.name ++ 32 ∷ bs) (p.pair.parts ∙ ap (λ bs. p.name ++ 32 ∷ bs) n.parts)); each = (o.is_name, (p.pair.is_name, (n.is_word, tt))) };
+      line = record {
+        parts = first ∙ ap (λ bs. 32 ∷ bs) (o.parts
+            ∙ ap (λ bs. o.name ++ 32 ∷ bs) (p.pair.parts ∙ ap (λ bs. p.name ++ 32 ∷ bs) n.parts));
+        each =
+            (o.is_name, (p.pair.is_name, (n.is_word, tt)));
+      };
       current = may.current;
       none = t.0;
       is = t.1;
@@ -296,7 +326,9 @@ record SaysRecord (h : Held) (ws : List (List ℕ)) (kind : BoundKind) (j : ℕ)
   pub value : bound_value kind ws ≡ Some d
   pub few : length ws ≤ 12
 
-record_says : (h : Held) (kind : BoundKind) (kw set name : List ℕ) (more : List (List ℕ)) (j : ℕ) (d : Dec) → bound_kind_of kw ≡ Some kind → is_bad_set set ≡ false → is_second_set h.standing.set set ≡ false → SaysBound kind more d → place_of (column_names (program h)) name ≡ Some j
+record_says : (h : Held) (kind : BoundKind) (kw set name : List ℕ) (more : List (List ℕ)) (j : ℕ) (d : Dec)
+    → bound_kind_of kw ≡ Some kind → is_bad_set set ≡ false → is_second_set h.standing.set set ≡ false
+    → SaysBound kind more d → place_of (column_names (program h)) name ≡ Some j
     → sets_again (program h).bounds kind j ≡ false → SaysRecord h (kw ∷ set ∷ name ∷ more) kind j d
 unfolding bound_tests bound_in
 record_says h kind kw set name [] j d is good first says place free =
@@ -327,7 +359,12 @@ module _ (h : Held) (kind : BoundKind) (text behind rest left : List ℕ) (j : �
           words = record_words;
           some = omega arith;
           few = said.few;
-          line = record { parts = kt.parts ∙ ap (λ bs. 32 ∷ kt.word ++ 32 ∷ bs) (st.parts ∙ ap (λ bs. st.name ++ 32 ∷ bs) p.bound.parts); each = (kt.is_word, (st.is_name, (p.bound.is_name, p.bound.each))) };
+          line = record {
+            parts = kt.parts ∙ ap (λ bs. 32 ∷ kt.word ++ 32 ∷ bs)
+                (st.parts ∙ ap (λ bs. st.name ++ 32 ∷ bs) p.bound.parts);
+            each =
+                (kt.is_word, (st.is_name, (p.bound.is_name, p.bound.each)));
+          };
           current = last;
           none = said.none;
           is = ap (λ g. with_bound g (record { kind = kind; column = j; value = d })) (sym (same_set h st.name st.head)) ∙ said.is;
@@ -345,14 +382,17 @@ goes_joined : (s m t : Standing) (xs ys : List (List ℕ)) → GoesOn s xs m →
 goes_joined s m t [] ys g k = subst (λ x. GoesOn x ys t) g k
 goes_joined s m t (x ∷ xs) ys g k = (g.0, goes_joined (after s x) m t xs ys g.1 k)
 
-pub goes_on : (old mid new : Held) (piece rest : List ℕ) (f g : Front) → TakesLines old piece f mid → rest ≡ drop f.len piece → TakesLines mid rest g new → TakesLines old piece (record { len = f.len + g.len; lines = f.lines + g.lines }) new
+pub goes_on : (old mid new : Held) (piece rest : List ℕ) (f g : Front) → TakesLines old piece f mid
+    → rest ≡ drop f.len piece → TakesLines mid rest g new → TakesLines old piece
+    (record { len = f.len + g.len; lines = f.lines + g.lines }) new
 goes_on old mid new piece rest f g h is k = record {
   lines = h.lines ++ k.lines;
   is = front_joined piece f g h.lines k.lines h.is (subst (λ bs. IsFront bs g k.lines) is k.is);
   goes = goes_joined old.standing mid.standing new.standing h.lines k.lines h.goes k.goes;
 }
 
-goes_standing : (before lines : List (List ℕ)) (t : Standing) → GoesOn (standing before) lines t → (t ≡ standing (before ++ lines)) × (IsClean mps_rules before Open → IsClean mps_rules (before ++ lines) Open)
+goes_standing : (before lines : List (List ℕ)) (t : Standing) → GoesOn (standing before) lines t
+    → (t ≡ standing (before ++ lines)) × (IsClean mps_rules before Open → IsClean mps_rules (before ++ lines) Open)
 goes_standing before [] t g = (g ∙ ap standing (sym (append-nil before)), λ c. subst (λ ls. IsClean mps_rules ls Open) (sym (append-nil before)) c)
 goes_standing before (line ∷ lines) t g =
     let more = goes_standing (before ++ line ∷ []) lines t (subst (λ s. GoesOn s lines t) (sym (standing-more before line)) g.1) in

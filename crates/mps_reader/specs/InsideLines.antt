@@ -2,11 +2,11 @@
 use Rattle.std.specs.Prelude.{◌≡◌, ℕ, ◌<◌, ◌≤◌, ◌^◌, true, false, List, [], ◌∷◌, ◌++◌, length, get_or, Some, None}
 use Rattle.std.specs.List.{AllByRecursion}
 use Rattle.std.specs.Str.{bytes_eq}
-use Rattle.texts.specs.Fronts.{IsFront}
-use Rattle.texts.specs.Judged.{first_reason}
-use Rattle.texts.specs.Names.{IsName}
-use Rattle.texts.specs.Words.{word_at}
-use Rattle.texts.specs.declared.grammar.Front.{Front}
+use Rattle.text_base.specs.Fronts.{IsFront}
+use Rattle.text_base.specs.Judged.{first_reason}
+use Rattle.text_base.specs.Names.{IsName}
+use Rattle.text_base.specs.Words.{word_at}
+use Rattle.text_base.specs.declared.grammar.Front.{Front}
 use Rattle.exact_numbers.specs.Numbers.{dec_of}
 use Rattle.exact_numbers.specs.declared.dec.Dec.{Dec}
 use Rattle.mps_model.specs.declared.kinds.BoundKind.{BoundKind}

@@ -13,7 +13,7 @@ use mps_words::{
     Keyword, PairText, bound_kind_of_two, first_name, first_number, first_pair, needs_number,
     no_number,
 };
-use texts::Front;
+use text_base::Front;
 
 // The kind that a line begins with, and what follows it and a space.
 #[inline]

@@ -1,6 +1,6 @@
 // The first lines of columns at the front of a piece.
 ghost use Rattle.std.specs.Prelude.{◌≡◌, ◌<◌, ◌≤◌, ◌^◌, ◌∷◌, ◌++◌, [], true, false, None, Some, OnOk, OnErr, IfSome, length};
-ghost use Rattle.texts.specs.Names.{IsName};
+ghost use Rattle.text_base.specs.Names.{IsName};
 ghost use Rattle.mps_model.specs.Built.{CanAddColumn, CanAddEntries};
 ghost use Rattle.mps_reader.specs.InsideHeld.{IsKept, IsSound, program};
 ghost use Rattle.mps_reader.specs.InsideHeldSteps.{with_first_entry};
@@ -14,7 +14,7 @@ use crate::state::State;
 use exact_numbers::Dec;
 use mps_words::{Keyword, after_space, first_name};
 use std::alloc::AllocError;
-use texts::{Front, Name};
+use text_base::{Front, Name};
 
 /// A new column gets room for at most so many entries.
 const MOST_ROOM: u32 = 16;

@@ -9,7 +9,7 @@ ghost use Rattle.mps_words.specs.Sections.{last_of};
 use crate::front_pairs::NextPair;
 use crate::state::State;
 use mps_words::{Keyword, after_bytes, after_space, last_of};
-use texts::Front;
+use text_base::Front;
 
 // Whether the lines of a section are pairs behind a name.
 #[inline]

@@ -1,6 +1,6 @@
 // Lines of rows at the front of a piece.
 ghost use Rattle.std.specs.Prelude.{◌≡◌, ◌≤◌, ◌+◌, ◌^◌, false, None, Some, IfSome, length};
-ghost use Rattle.texts.specs.Names.{IsName};
+ghost use Rattle.text_base.specs.Names.{IsName};
 ghost use Rattle.mps_model.specs.Built.{CanAddRow};
 ghost use Rattle.mps_reader.specs.InsideHeld.{IsSound, program};
 ghost use Rattle.mps_reader.specs.InsideHeldSteps.{with_row};
@@ -12,7 +12,7 @@ use crate::front_lines::FrontTaken;
 use crate::state::State;
 use mps_model::RowKind;
 use mps_words::{Keyword, first_name, is_marker_word, row_kind_of_one};
-use texts::Front;
+use text_base::Front;
 
 /// A row, and what follows its line.
 #[derive(Clone, Copy)]

@@ -1,8 +1,8 @@
 // The grammar of MPS texts, a line at a time.
 ghost use Rattle.std.specs.Prelude.{◌≡◌, [], IfOk};
-ghost use Rattle.texts.specs.Words.{texts};
+ghost use Rattle.text_base.specs.Words.{texts};
 ghost use Rattle.mps_reader.specs.Grammar.{standing, mps_rules, SaysMps, line_tests};
-ghost use Rattle.texts.specs.Judged.{Takes};
+ghost use Rattle.text_base.specs.Judged.{Takes};
 ghost use Rattle.mps_reader.specs.Steps.{after_words};
 
 use crate::fault::MpsReason;
@@ -11,7 +11,7 @@ use mps_model::Mps;
 use mps_words::{is_data, is_left_out, three_words};
 use std::alloc::{AllocError, Global};
 use std::marker::Model;
-use texts::{Front, Grammar, LineFault, Row, Stop};
+use text_base::{Front, Grammar, LineFault, Row, Stop};
 
 /// The grammar of MPS texts, with the lines that it took.
 #[derive(Drop)]

@@ -1,5 +1,7 @@
 -- Names by their codes.
-use Rattle.std.proofs.Common.{◌≡◌, ◌≢◌, ◌∙◌, ℕ, zero, suc, ◌+◌, ◌-◌, ◌*◌, ◌/◌, ◌%◌, ◌<◌, ◌≤◌, ◌^◌, List, [], ◌∷◌, ◌++◌, Bool, true, false, length, map, take, drop, set, get_or, nat_eq, Option, Some, None, refl, sym, ap, arith, subst, Fits, w8, not, ◌==◌, ◌⊎◌, inl, inr}
+use Rattle.std.proofs.Common.{◌≡◌, ◌≢◌, ◌∙◌, ℕ, zero, suc, ◌+◌, ◌-◌, ◌*◌, ◌/◌, ◌%◌, ◌<◌, ◌≤◌, ◌^◌, List, [], ◌∷◌, ◌++◌}
+use Rattle.std.proofs.Common.{Bool, true, false, length, map, take, drop, set, get_or, nat_eq, Option, Some, None, refl}
+use Rattle.std.proofs.Common.{sym, ap, arith, subst, Fits, w8, not, ◌==◌, ◌⊎◌, inl, inr}
 use Rattle.std.specs.Prelude.{All, AllPairs, IfSome, nat_le, fold, slice_get, option_map, unwrap_or}
 use Rattle.std.specs.List.{position, list_any}
 use Rattle.indexmap.specs.IndexSet.{insert_key}
@@ -8,19 +10,21 @@ use Rattle.std.proofs.Math.Nat.{pow-le-pow_right}
 use Rattle.std.proofs.lemmas.Bool.Decides.{nat_tests}
 use Rattle.std.proofs.lemmas.Nat.{div-mul-add, mod-mul-add}
 use Rattle.std.proofs.lemmas.Grind.{get_or_default_zero}
-use Rattle.std.proofs.lemmas.List.{length-map, map-append, get_or-map, length-append, length-take-le, take_more, take_all, take-map, get_or-take, get_or_default, drop-set, append_assoc, append-nil, take-append-drop}
+use Rattle.std.proofs.lemmas.List.{length-map, map-append, get_or-map, length-append, length-take-le, take_more}
+use Rattle.std.proofs.lemmas.List.{take_all, take-map, get_or-take, get_or_default, drop-set, append_assoc, append-nil}
+use Rattle.std.proofs.lemmas.List.{take-append-drop}
 use Rattle.std.proofs.lemmas.List.Elements.{All-head, All-tail, All-push, All-take, All-get_or}
 use Rattle.std.proofs.lemmas.List.Sums.{fold_push, fails_before_first}
 use Rattle.std.proofs.lemmas.Option.{slice_get-map}
 use Rattle.std.proofs.lemmas.List.Folds.{list_any_none}
 use Rattle.std.proofs.Math.Seq.{get_or-append_seam}
-use Rattle.texts.specs.Names.{IsName, is_name}
+use Rattle.text_base.specs.Names.{IsName, is_name}
 use Rattle.mps_words.specs.InsideCodes.{with_byte, bytes_code, code_of, last_bytes, name_of, AreBytes, HaveCodes, NoneOrLong}
-use Rattle.texts.specs.Names.{place_of}
+use Rattle.text_base.specs.Names.{place_of}
 use Rattle.mps_words.specs.Names.{last_name}
 use Rattle.mps_words.proofs.LastLemmas.{last_name-slice}
-use Rattle.texts.proofs.NamePlaces.{past_all, place_at, place_none, place_some, bytes_differ, bytes_same}
-pub use Rattle.texts.proofs.NameTests.{tested_name as named}
+use Rattle.text_base.proofs.NamePlaces.{past_all, place_at, place_none, place_some, bytes_differ, bytes_same}
+pub use Rattle.text_base.proofs.NameTests.{tested_name as named}
 use Rattle.std.proofs.lemmas.List.Quantifiers.{all_pairs_push, position-Some}
 use Rattle.std.proofs.lemmas.Bool.{leb-true, lt-leb, le-leb, eq-eqb, ne_eqb, cases_Bool}
 
@@ -72,7 +76,9 @@ bytes_back (suc n) (b ∷ bytes) few h =
     let code : bytes_code (b ∷ bytes) ≡ bytes_code front * 256 + last = ap bytes_code (by_end b bytes) ∙ fold_push with_byte 1 front last in
     let size : length front ≤ n = omega (arith, few, length-take-le (length bytes) (b ∷ bytes) (omega arith)) in
     let back : last_bytes n (bytes_code front) ≡ front = bytes_back n front size (All-take (λ (c : ℕ). c < 256) (length bytes) (b ∷ bytes) h) in
-    ap (last_bytes (suc n)) code ∙ more_bytes n (bytes_code front) last (some_code front) (All-get_or (λ (c : ℕ). c < 256) (b ∷ bytes) (length bytes) 0 within h) ∙ ap (λ (cs : List ℕ). cs ++ last ∷ []) back ∙ sym (by_end b bytes)
+    ap (last_bytes (suc n)) code ∙ more_bytes n (bytes_code front) last (some_code front)
+    (All-get_or (λ (c : ℕ). c < 256) (b ∷ bytes) (length bytes) 0 within h)
+    ∙ ap (λ (cs : List ℕ). cs ++ last ∷ []) back ∙ sym (by_end b bytes)
 
 pub few_bytes : (n code : ℕ) → length (last_bytes n code) ≤ n
 unfolding last_bytes
@@ -85,7 +91,9 @@ few_bytes (suc n) code =
     ]
 
 -- the last byte is written before those behind it
-pub byte_written : (bytes : List ℕ) (place left : ℕ) → 0 < place → place ≤ length bytes → 255 < left → last_bytes (place - 1) (left / 256) ++ drop (place - 1) (set bytes (place - 1) (left % 256)) ≡ last_bytes place left ++ drop place bytes
+pub byte_written : (bytes : List ℕ) (place left : ℕ) → 0 < place → place ≤ length bytes → 255 < left
+    → last_bytes (place - 1) (left / 256) ++ drop (place - 1) (set bytes (place - 1) (left % 256))
+    ≡ last_bytes place left ++ drop place bytes
 unfolding last_bytes
 byte_written bytes zero left some within more = absurd (omega (arith, some))
 byte_written bytes (suc n) left some within more =
@@ -161,7 +169,8 @@ last_named (n ∷ o ∷ names) h some = last_named (o ∷ names) (All-tail (λ n
 -- ---- places
 
 -- a name whose code stands at a place has that place
-pub place_by_code : (names : List (List ℕ)) (codes name : List ℕ) (p : ℕ) → HaveCodes names codes → AreBytes name → p < length codes → get_or codes p 0 ≡ code_of name → 0 < code_of name → place_of names name ≡ Some p
+pub place_by_code : (names : List (List ℕ)) (codes name : List ℕ) (p : ℕ) → HaveCodes names codes → AreBytes name
+    → p < length codes → get_or codes p 0 ≡ code_of name → 0 < code_of name → place_of names name ≡ Some p
 place_by_code names codes name p h bytes within e some =
     let lt : p < length names = subst (λ (n : ℕ). p < n) (ap length h.coded ∙ length-map names code_of) within in
     let code : code_of (get_or names p []) ≡ code_of name =
@@ -169,7 +178,8 @@ place_by_code names codes name p h bytes within e some =
     let same : get_or names p [] ≡ name = same_name (get_or names p []) name (h.bytes p [] lt) bytes code some in
     sym (ap (place_of names) same) ∙ place_at names p [] h.apart lt
 
-pub one_more_code : (names : List (List ℕ)) (codes name : List ℕ) → HaveCodes names codes → AreBytes name → IsName name → place_of names name ≡ None → length names < 2 ^ 21 → HaveCodes (names ++ name ∷ []) (codes ++ code_of name ∷ [])
+pub one_more_code : (names : List (List ℕ)) (codes name : List ℕ) → HaveCodes names codes → AreBytes name → IsName name
+    → place_of names name ≡ None → length names < 2 ^ 21 → HaveCodes (names ++ name ∷ []) (codes ++ code_of name ∷ [])
 one_more_code names codes name h bytes named new room = record {
   few = omega (arith, room, length-append names (name ∷ []));
   bytes = All-push AreBytes names name h.bytes bytes;
@@ -202,7 +212,9 @@ new_behind codes i apart lt = by (place_of (map name_of (take i codes)) (name_of
         let at = place_some (map name_of (take i codes)) (name_of (get_or codes i 0)) j e in
         let below : j < i = omega (arith, at.within, length-map (take i codes) name_of, length-take-le i codes (omega (arith, lt))) in
         let within : i < length (map name_of codes) = omega (arith, lt, length-map codes name_of) in
-        let here : get_or (map name_of (take i codes)) j [] ≡ get_or (map name_of codes) j [] = ap (λ (ns : List (List ℕ)). get_or ns j []) (sym (take-map name_of i codes)) ∙ get_or-take i (map name_of codes) j [] below in
+        let here : get_or (map name_of (take i codes)) j [] ≡ get_or (map name_of codes) j [] =
+        ap (λ (ns : List (List ℕ)). get_or ns j []) (sym (take-map name_of i codes))
+        ∙ get_or-take i (map name_of codes) j [] below in
         absurd (apart j i [] below within (sym here ∙ sym at.same ∙ sym (get_or-map name_of codes i 0 [] lt)))
 
 -- each code is that of its name
@@ -212,7 +224,10 @@ code_at codes p h lt =
     sym (ap (λ (cs : List ℕ). get_or cs p 0) h.coded ∙ get_or-map code_of (map name_of codes) p [] 0 within ∙ ap code_of (get_or-map name_of codes p 0 [] lt))
 
 -- what a search for a code finds
-pub found_place : (codes name : List ℕ) (code : ℕ) (r : Option ℕ) → code ≡ code_of name → HaveCodes (map name_of codes) codes → AreBytes name → IfSome r (λ p. p < length codes) → IfSome r (λ p. get_or codes p 0 ≡ code) → (r ≡ None → All (λ c. c ≢ code) codes) → r ≡ place_of (map name_of codes) name
+pub found_place : (codes name : List ℕ) (code : ℕ) (r : Option ℕ) → code ≡ code_of name
+    → HaveCodes (map name_of codes) codes → AreBytes name → IfSome r (λ p. p < length codes)
+    → IfSome r (λ p. get_or codes p 0 ≡ code) → (r ≡ None → All (λ c. c ≢ code) codes)
+    → r ≡ place_of (map name_of codes) name
 found_place codes name code None is h bytes within found absent = sym (no_place (map name_of codes) codes name h (subst (λ (n : ℕ). All (λ c. c ≢ n) codes) is (absent refl)))
 found_place codes name code (Some p) is h bytes within found absent =
     let same : get_or codes p 0 ≡ code_of name = found ∙ is in
@@ -265,14 +280,16 @@ code_pushed codes code h =
     let absent : list_any (nat_eq code) codes ≡ false = list_any_none (nat_eq code) codes (λ k d lt. ne_eqb code (get_or codes k d) (λ same. h k d lt (sym same))) in
     rw absent refl
 
-pub pushed_short : (short behind codes more : List ℕ) (code : ℕ) → short ++ behind ≡ codes → length behind ≡ 0 → All (λ c. c ≢ code) codes → more ≡ insert_key nat_eq short code → more ++ behind ≡ codes ++ code ∷ []
+pub pushed_short : (short behind codes more : List ℕ) (code : ℕ) → short ++ behind ≡ codes → length behind ≡ 0
+    → All (λ c. c ≢ code) codes → more ≡ insert_key nat_eq short code → more ++ behind ≡ codes ++ code ∷ []
 pushed_short short [] codes more code same none h is =
     let all : short ≡ codes = sym (append-nil short) ∙ same in
     append-nil more ∙ is ∙ ap (λ (cs : List ℕ). insert_key nat_eq cs code) all ∙ code_pushed codes code h
 pushed_short short (c ∷ behind) codes more code same none h is = absurd (omega (arith, none))
 
 -- a short name that is new has a new code
-pub fresh_code : (names : List (List ℕ)) (codes name : List ℕ) (code : ℕ) → HaveCodes names codes → code ≡ code_of name → AreBytes name → place_of names name ≡ None → 0 < code → All (λ c. c ≢ code) codes
+pub fresh_code : (names : List (List ℕ)) (codes name : List ℕ) (code : ℕ) → HaveCodes names codes → code ≡ code_of name
+    → AreBytes name → place_of names name ≡ None → 0 < code → All (λ c. c ≢ code) codes
 fresh_code names codes name code h is bytes new some = λ k d lt same.
     let within : k < length names = omega (arith, lt, ap length h.coded, length-map names code_of) in
     let own : code_of (get_or names k []) ≡ code_of name =

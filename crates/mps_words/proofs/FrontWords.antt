@@ -3,8 +3,8 @@ use Rattle.std.proofs.Common.{◌≡◌, ◌∙◌, ℕ, ◌+◌, ◌<◌, ◌�
 use Rattle.std.proofs.lemmas.List.{drop_more, drop-take}
 use Rattle.std.proofs.lemmas.List.Folds.{list_all-append}
 use Rattle.std.proofs.lemmas.Bool.{le-leb}
-use Rattle.texts.specs.Names.{has_name_bytes}
-use Rattle.texts.specs.Words.{IsUnmarked}
+use Rattle.text_base.specs.Names.{has_name_bytes}
+use Rattle.text_base.specs.Words.{IsUnmarked}
 use Rattle.exact_numbers.specs.Numbers.{dec_of}
 use Rattle.exact_numbers.specs.declared.dec.Dec.{Dec}
 use Rattle.mps_words.specs.InsideFronts.{IsNumberText}
@@ -21,7 +21,8 @@ unmarked_bytes : (word : List ℕ) → IsUnmarked word → has_name_bytes word �
 unmarked_bytes [] all = refl
 unmarked_bytes (b ∷ word) all = let high : 35 < b = all.0 in rw (le-leb 33 b (omega (arith, high))) (unmarked_bytes word all.1)
 
-pub number_text : (text : List ℕ) (n : ℕ) (d : Dec) → n < length text → get_or text n 0 ≡ 10 → 0 < n → n ≤ 40 → dec_of (take n text) ≡ Some d → IsUnmarked (take n text) → IsNumberText text d (drop (n + 1) text)
+pub number_text : (text : List ℕ) (n : ℕ) (d : Dec) → n < length text → get_or text n 0 ≡ 10 → 0 < n → n ≤ 40
+    → dec_of (take n text) ≡ Some d → IsUnmarked (take n text) → IsNumberText text d (drop (n + 1) text)
 number_text text n d within ends some few says unmarked =
     let taken : length (take n text) ≡ n = omega (arith, within, length-take n text) in
     record {

@@ -4,10 +4,10 @@ use Rattle.std.specs.Prelude.{OnOk, OnErr, IfSome, slice_get}
 use Rattle.std.specs.Global.{Vec}
 use Rattle.std.proofs.lemmas.List.{length-map, map_push, get_or-map}
 use Rattle.std.proofs.lemmas.Option.{slice_get_within}
-use Rattle.texts.specs.Names.{IsName}
-use Rattle.texts.proofs.NamePlaces.{texts_of}
+use Rattle.text_base.specs.Names.{IsName}
+use Rattle.text_base.proofs.NamePlaces.{texts_of}
 use Rattle.mps_words.specs.InsideCodes.{code_of, name_of, AreBytes, HaveCodes, kept_names}
-use Rattle.texts.specs.Names.{place_of}
+use Rattle.text_base.specs.Names.{place_of}
 use Rattle.mps_words.specs.Names.{last_name}
 use Rattle.mps_words.proofs.CodeLemmas.{one_more_code, name_back, code_at, last_named, named}
 
@@ -78,12 +78,17 @@ pub one_more : (names : List (List ℕ)) (codes name : List ℕ) (code : ℕ) �
 one_more names codes name code h new =
     subst (λ (n : ℕ). HaveCodes (names ++ name ∷ []) (codes ++ n ∷ [])) (sym new.is) (one_more_code names codes name h new.bytes new.own new.new new.room)
 
-pub set_more : {A E : Type 0} (r : Result A E) (keys keys2 : List (Vec ℕ)) (codes codes2 name : List ℕ) (code : ℕ) → HaveCodes (texts_of keys) codes → IsNew (texts_of keys) name code → OnOk r (texts_of keys2 ≡ texts_of keys ++ name ∷ []) → OnOk r (codes2 ≡ codes ++ code ∷ []) → OnErr r (keys2 ≡ keys) → OnErr r (codes2 ≡ codes) → HaveCodes (texts_of keys2) codes2
+pub set_more : {A E : Type 0} (r : Result A E) (keys keys2 : List (Vec ℕ)) (codes codes2 name : List ℕ) (code : ℕ)
+    → HaveCodes (texts_of keys) codes → IsNew (texts_of keys) name code
+    → OnOk r (texts_of keys2 ≡ texts_of keys ++ name ∷ []) → OnOk r (codes2 ≡ codes ++ code ∷ []) → OnErr r (keys2 ≡ keys)
+    → OnErr r (codes2 ≡ codes) → HaveCodes (texts_of keys2) codes2
 set_more (Ok u) keys keys2 codes codes2 name code h new names more same still = rw (names, more) (one_more (texts_of keys) codes name code h new)
 set_more (Err f) keys keys2 codes codes2 name code h new names more same still = rw (same, still) h
 
 -- the set that is made of the codes
-pub begun : (keys : List (Vec ℕ)) (codes codes2 name : List ℕ) (code : ℕ) → HaveCodes (map name_of codes) codes → IsNew (map name_of codes) name code → texts_of keys ≡ map name_of codes ++ name ∷ [] → codes2 ≡ codes ++ code ∷ [] → HaveCodes (texts_of keys) codes2
+pub begun : (keys : List (Vec ℕ)) (codes codes2 name : List ℕ) (code : ℕ) → HaveCodes (map name_of codes) codes
+    → IsNew (map name_of codes) name code → texts_of keys ≡ map name_of codes ++ name ∷ [] → codes2 ≡ codes ++ code ∷ []
+    → HaveCodes (texts_of keys) codes2
 begun keys codes codes2 name code h new names more = rw (names, more) (one_more (map name_of codes) codes name code h new)
 
 pub named_more : (codes name : List ℕ) (code : ℕ) → code ≡ code_of name → AreBytes name → 0 < code → map name_of (codes ++ code ∷ []) ≡ map name_of codes ++ name ∷ []
@@ -91,12 +96,16 @@ named_more codes name code is bytes some =
     let back : name_of code ≡ name = ap name_of is ∙ name_back name bytes (omega (arith, is, some)) in
     map_push name_of codes code ∙ ap (λ (n : List ℕ). map name_of codes ++ n ∷ []) back
 
-pub codes_more : {A E : Type 0} (r : Result A E) (set : Option (List (List ℕ))) (codes codes2 name : List ℕ) (code : ℕ) → set ≡ None → HaveCodes (kept_names set codes) codes → IsNew (map name_of codes) name code → 0 < code → OnOk r (codes2 ≡ codes ++ code ∷ []) → OnErr r (codes2 ≡ codes) → HaveCodes (kept_names set codes2) codes2
+pub codes_more : {A E : Type 0} (r : Result A E) (set : Option (List (List ℕ))) (codes codes2 name : List ℕ) (code : ℕ)
+    → set ≡ None → HaveCodes (kept_names set codes) codes → IsNew (map name_of codes) name code → 0 < code
+    → OnOk r (codes2 ≡ codes ++ code ∷ []) → OnErr r (codes2 ≡ codes) → HaveCodes (kept_names set codes2) codes2
 codes_more r (Some names) codes codes2 name code is h new some more still = absurd cc
 codes_more (Ok u) None codes codes2 name code is h new some more still = rw (more, named_more codes name code new.is new.bytes some) (one_more (map name_of codes) codes name code h new)
 codes_more (Err f) None codes codes2 name code is h new some more still = rw still h
 
-pub seen_more : {A E : Type 0} (r : Result A E) (set : Option (List (List ℕ))) (codes codes2 name : List ℕ) (code : ℕ) (names : List (List ℕ)) → set ≡ None → kept_names set codes ≡ names → code ≡ code_of name → AreBytes name → 0 < code → OnOk r (codes2 ≡ codes ++ code ∷ []) → OnOk r (kept_names set codes2 ≡ names ++ name ∷ [])
+pub seen_more : {A E : Type 0} (r : Result A E) (set : Option (List (List ℕ))) (codes codes2 name : List ℕ) (code : ℕ)
+    (names : List (List ℕ)) → set ≡ None → kept_names set codes ≡ names → code ≡ code_of name → AreBytes name → 0 < code
+    → OnOk r (codes2 ≡ codes ++ code ∷ []) → OnOk r (kept_names set codes2 ≡ names ++ name ∷ [])
 seen_more r (Some set) codes codes2 name code names is e own bytes some more = absurd cc
 seen_more (Ok u) None codes codes2 name code names is e own bytes some more = ap (map name_of) more ∙ named_more codes name code own bytes some ∙ ap (λ (ns : List (List ℕ)). ns ++ name ∷ []) e
 seen_more (Err f) None codes codes2 name code names is e own bytes some more = tt

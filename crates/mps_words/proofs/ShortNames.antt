@@ -1,5 +1,7 @@
 -- Short names that a text begins with.
-use Rattle.std.proofs.Common.{◌≡◌, ◌∙◌, ℕ, zero, suc, ◌+◌, ◌-◌, ◌*◌, ◌/◌, ◌%◌, ◌<◌, ◌≤◌, ◌^◌, List, [], ◌∷◌, ◌++◌, length, take, drop, get_or, true, refl, sym, ap, ap₂, arith, subst, Option, Some, None, mul-le-mul_right}
+use Rattle.std.proofs.Common.{◌≡◌, ◌∙◌, ℕ, zero, suc, ◌+◌, ◌-◌, ◌*◌, ◌/◌, ◌%◌, ◌<◌, ◌≤◌, ◌^◌, List, [], ◌∷◌, ◌++◌}
+use Rattle.std.proofs.Common.{length, take, drop, get_or, true, refl, sym, ap, ap₂, arith, subst, Option, Some, None}
+use Rattle.std.proofs.Common.{mul-le-mul_right}
 use Rattle.std.specs.Prelude.{IfSome, fold, nat_le}
 use Rattle.std.proofs.lemmas.Nat.{div-mul-add, mod-mul-add, pow-add, one_shl}
 use Rattle.std.proofs.lemmas.Grind.{pow_more}
@@ -8,10 +10,10 @@ use Rattle.std.proofs.lemmas.Bool.{le-leb}
 use Rattle.std.proofs.Math.Seq.{take-add}
 use Rattle.std.proofs.lemmas.List.Elements.{All-head, All-tail, All-take, All-drop}
 use Rattle.std.proofs.lemmas.List.Sums.{fold-append, fold_more}
-use Rattle.texts.specs.Names.{is_name}
-use Rattle.texts.proofs.NamePlaces.{place_some}
+use Rattle.text_base.specs.Names.{is_name}
+use Rattle.text_base.proofs.NamePlaces.{place_some}
 use Rattle.mps_words.specs.InsideCodes.{AreBytes, HaveCodes, IsFound, IsShort, code_of, name_of, with_byte}
-use Rattle.texts.specs.Names.{place_of}
+use Rattle.text_base.specs.Names.{place_of}
 use Rattle.mps_words.proofs.CodeLemmas.{short_code, some_code, name_back, place_by_code, named}
 
 -- bytes as the digits of a number
@@ -90,7 +92,9 @@ head_parts text head size h long is few =
     }
 
 -- the name that a head begins with
-pub short_name : (text rest : List ℕ) (head size end code : ℕ) → AreBytes text → 8 ≤ length text → head ≡ value (take 8 text) → size ≤ 7 → head / 2 ^ (56 - 8 * size) % 256 ≡ end → rest ≡ drop (size + 1) text → code ≡ (1 * 2 ^ (8 * size)) % 2 ^ 64 + head / 2 ^ (56 - 8 * size) / 256 → IsShort text end code rest
+pub short_name : (text rest : List ℕ) (head size end code : ℕ) → AreBytes text → 8 ≤ length text
+    → head ≡ value (take 8 text) → size ≤ 7 → head / 2 ^ (56 - 8 * size) % 256 ≡ end → rest ≡ drop (size + 1) text
+    → code ≡ (1 * 2 ^ (8 * size)) % 2 ^ 64 + head / 2 ^ (56 - 8 * size) / 256 → IsShort text end code rest
 short_name text rest head size end code h long is few last after own =
     let parts = head_parts text head size h long is few in
     let within : size < length text = omega (arith, few, long) in
@@ -117,7 +121,9 @@ short_back text rest end code h s =
     s.parts ∙ ap (λ (name : List ℕ). name ++ end ∷ rest) (sym back)
 
 -- a short name whose code stands at a place is found there
-pub short_found : (names : List (List ℕ)) (codes text rest : List ℕ) (end code place : ℕ) → HaveCodes names codes → AreBytes text → IsShort text end code rest → place < length codes → get_or codes place 0 ≡ code → IsFound names text end place rest
+pub short_found : (names : List (List ℕ)) (codes text rest : List ℕ) (end code place : ℕ) → HaveCodes names codes
+    → AreBytes text → IsShort text end code rest → place < length codes → get_or codes place 0 ≡ code
+    → IsFound names text end place rest
 short_found names codes text rest end code place h bytes s within here =
     let own = front_bytes text s.name (end ∷ rest) bytes s.parts in
     let at : place_of names s.name ≡ Some place = place_by_code names codes s.name place h own within (here ∙ s.own) (code_above text rest end code s) in
@@ -130,6 +136,8 @@ short_found names codes text rest end code place h bytes s within here =
       at = at;
     }
 
-pub last_word : {A : Type 0} (o : Option A) (now : A → List ℕ) (text last : List ℕ) (code : ℕ) → AreBytes text → name_of code ≡ last → IfSome o (λ rest. IsShort text 32 code (now rest)) → IfSome o (λ rest. text ≡ last ++ 32 ∷ now rest)
+pub last_word : {A : Type 0} (o : Option A) (now : A → List ℕ) (text last : List ℕ) (code : ℕ) → AreBytes text
+    → name_of code ≡ last → IfSome o (λ rest. IsShort text 32 code (now rest))
+    → IfSome o (λ rest. text ≡ last ++ 32 ∷ now rest)
 last_word None now text last code h is s = tt
 last_word (Some rest) now text last code h is s = short_back text (now rest) 32 code h s ∙ ap (λ (name : List ℕ). name ++ 32 ∷ now rest) is

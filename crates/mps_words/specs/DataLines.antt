@@ -1,9 +1,9 @@
 -- What the words of a data line are (usual manuals; set names and markers are an own profile).
 use Rattle.std.specs.Prelude.{ℕ, ◌+◌, ◌==◌, Bool, true, false, ◌&&◌, ◌||◌, not, nat_le, nat_lt, List, [], length, drop, Option, Some, None, option_map, is_none, if◌then◌else◌, codes}
 use Rattle.std.specs.Str.{bytes_eq}
-use Rattle.texts.specs.Names.{is_name}
-use Rattle.texts.specs.Words.{word_at}
-use Rattle.fractions.specs.Rational.{zero_ℚ}
+use Rattle.text_base.specs.Names.{is_name}
+use Rattle.text_base.specs.Words.{word_at}
+use Rattle.exact_numbers.specs.Rational.{zero_ℚ}
 use Rattle.exact_numbers.specs.declared.dec.Dec.{Dec}
 use Rattle.exact_numbers.specs.Numbers.{dec_of, dec_from}
 use Rattle.mps_model.specs.declared.kinds.RowKind.{RowKind}

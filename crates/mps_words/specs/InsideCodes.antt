@@ -1,7 +1,7 @@
 -- Short names as numbers.
 use Rattle.std.specs.Prelude.{◌≡◌, ◌≢◌, true, zero, suc, ℕ, ◌+◌, ◌*◌, ◌/◌, ◌%◌, ◌<◌, ◌≤◌, ◌^◌, nat_le, List, [], ◌∷◌, ◌++◌, length, map, get_or, fold, All, AllPairs, if◌then◌else◌, Option, Some, None}
-use Rattle.texts.specs.Names.{IsName, is_name}
-use Rattle.texts.specs.Names.{place_of}
+use Rattle.text_base.specs.Names.{IsName, is_name}
+use Rattle.text_base.specs.Names.{place_of}
 
 -- a number with one more digit of base 256
 abbrev pub with_byte : ℕ → ℕ → ℕ

@@ -1,7 +1,7 @@
 -- Words at the front of a text, and the line that they are.
 use Rattle.std.specs.Prelude.{◌≡◌, ℕ, List, [], ◌∷◌, ◌++◌, Some}
 use Rattle.std.specs.List.{AllByRecursion}
-use Rattle.texts.specs.Names.{IsName}
+use Rattle.text_base.specs.Names.{IsName}
 use Rattle.exact_numbers.specs.Numbers.{dec_of}
 use Rattle.exact_numbers.specs.declared.dec.Dec.{Dec}
 

@@ -3,7 +3,7 @@
 use Rattle.std.specs.Prelude.{ℕ, ◌==◌, Bool, ◌||◌, nat_le, ◌&&◌, not, List, [], ◌∷◌, ◌++◌, length, slice_index, Option, Some, None, if◌then◌else◌, codes}
 use Rattle.std.specs.List.{fold, list_any}
 use Rattle.std.specs.Str.{bytes_eq}
-use Rattle.texts.specs.Words.{is_blank, words_of, row_of, word_at}
+use Rattle.text_base.specs.Words.{is_blank, words_of, row_of, word_at}
 use Rattle.mps_words.specs.declared.keyword.Keyword.{Keyword}
 use Rattle.mps_words.specs.declared.keyword.Keyword.TheVariants.{Name, Sense, Rows, Columns, Rhs, Ranges, Bounds, End}
 

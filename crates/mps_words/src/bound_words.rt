@@ -1,12 +1,12 @@
 // Records of bounds.
 ghost use Rattle.std.specs.Prelude.{◌≡◌, ◌∷◌, [], true, false, MatchOption, Some, IfSome};
-ghost use Rattle.texts.specs.Names.{IsName};
-ghost use Rattle.texts.specs.Words.{texts};
+ghost use Rattle.text_base.specs.Names.{IsName};
+ghost use Rattle.text_base.specs.Words.{texts};
 ghost use Rattle.mps_words.specs.DataLines.{bound_kind_of, bound_place, bound_set, bound_value, has_bad_number, has_bound_form, has_bound_set, needs_number, no_number};
 
 use exact_numbers::{Dec, dec_of};
 use mps_model::BoundKind;
-use texts::word_at;
+use text_base::word_at;
 
 /// The kind of a bound that two letters name.
 #[inline]

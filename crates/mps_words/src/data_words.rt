@@ -1,12 +1,12 @@
 // Data lines of the other sections.
 ghost use Rattle.std.specs.Prelude.{◌≡◌, ◌⊎◌, ◌∷◌, [], true, None, Some, IfSome, MatchOption, length};
-ghost use Rattle.texts.specs.Names.{IsName};
-ghost use Rattle.texts.specs.Words.{texts, word_at};
+ghost use Rattle.text_base.specs.Names.{IsName};
+ghost use Rattle.text_base.specs.Words.{texts, word_at};
 ghost use Rattle.mps_words.specs.DataLines.{has_side_form, is_bad_set, is_marker, is_row_name, is_stretch_begin, is_stretch_end, is_word_with_pairs, row_in, row_kind_of, sense_of, side_pairs, side_set};
 
 use crate::words::after_first;
 use mps_model::RowKind;
-use texts::{is_name, word_at};
+use text_base::{is_name, word_at};
 
 /// Whether the objective is maximised, by a word of the sense.
 #[tactic(auto, unfolding(crate::specs::DataLines::sense_of))]

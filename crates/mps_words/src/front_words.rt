@@ -1,7 +1,7 @@
 // Words at the front of a text that is not cut into lines yet.
 ghost use Rattle.std.specs.Prelude.{◌≡◌, ◌≤◌, ◌++◌, ◌∷◌, ◌+◌, true, IfSome, take, length};
 ghost use Rattle.std.specs.Str.{bytes_eq};
-ghost use Rattle.texts.specs.Names.{IsName, has_name_bytes};
+ghost use Rattle.text_base.specs.Names.{IsName, has_name_bytes};
 ghost use Rattle.mps_model.specs.Valid.{marker_word};
 ghost use Rattle.mps_words.specs.InsideFronts.{IsNumberText, IsPairText};
 

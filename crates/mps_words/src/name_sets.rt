@@ -3,7 +3,7 @@ ghost use Rattle.std.specs.Prelude.{◌≡◌, ◌≢◌, ◌+◌, ◌<◌, ◌�
 ghost use Rattle.std.specs.Str.{bytes_eq};
 ghost use Rattle.indexmap.specs.IndexSet.{spare};
 ghost use Rattle.mps_words.specs.InsideCodes.{name_of};
-ghost use Rattle.texts.specs.Names.{place_of};
+ghost use Rattle.text_base.specs.Names.{place_of};
 ghost use Rattle.mps_words.specs.Names.{last_name};
 
 use crate::codes::{Codes, Key, name_of};

@@ -1,9 +1,9 @@
 // Names, at most as many as there may be rows or columns, in the order in which they came.
 ghost use Rattle.std.specs.Prelude.{◌≡◌, ◌++◌, ◌∷◌, [], None, OnOk, IfSome, true, length, ◌<◌, ◌≤◌, ◌^◌};
 ghost use Rattle.std.specs.Str.{bytes_eq};
-ghost use Rattle.texts.specs.Names.{IsName, is_name};
+ghost use Rattle.text_base.specs.Names.{IsName, is_name};
 ghost use Rattle.mps_words.specs.InsideCodes.{IsFound, code_of};
-ghost use Rattle.texts.specs.Names.{place_of};
+ghost use Rattle.text_base.specs.Names.{place_of};
 ghost use Rattle.mps_words.specs.Names.{last_name};
 
 use crate::codes::{Codes, Key, after_code, after_code_word, first_short};

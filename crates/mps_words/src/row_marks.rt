@@ -3,7 +3,7 @@ ghost use Rattle.std.specs.Prelude.{◌≡◌, ◌<◌, false, true, length, rep
 
 use std::alloc::{AllocError, Global};
 use std::marker::Model;
-use texts::Marks;
+use text_base::Marks;
 
 /// A mark for each row below a length. Whether a row behind all that are marked has one is known
 /// without a look at the marks.

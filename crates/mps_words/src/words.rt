@@ -1,10 +1,10 @@
 // Lines and words.
 ghost use Rattle.std.specs.Prelude.{◌≡◌, ◌≤◌, [], ◌∷◌, IfSome, OnSome, slice_index, drop, length, not, ◌==◌, true, false};
 ghost use Rattle.std.specs.List.{position_or_len};
-ghost use Rattle.texts.specs.Words.{is_blank, texts, row_of, words_of};
+ghost use Rattle.text_base.specs.Words.{is_blank, texts, row_of, words_of};
 ghost use Rattle.mps_words.specs.Sections.{is_data, is_left_out};
 
-use texts::Row;
+use text_base::Row;
 
 /// The words after the first.
 pub fn after_first<'a, 'b>(words: &'b [&'a [u8]]) -> &'b [&'a [u8]]

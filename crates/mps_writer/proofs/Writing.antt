@@ -1,4 +1,5 @@
-use Rattle.std.proofs.Common.{[], ◌≡◌, ℕ, suc, ◌+◌, ◌<◌, ◌≤◌, ◌∙◌, sym, ap, ap₂, subst, arith, Bool, true, false, List, ◌∷◌, ◌++◌, length, get_or, drop, take, map, All, Some, add-one, append-nil, drop-cons}
+use Rattle.std.proofs.Common.{[], ◌≡◌, ℕ, suc, ◌+◌, ◌<◌, ◌≤◌, ◌∙◌, sym, ap, ap₂, subst, arith, Bool, true, false, List}
+use Rattle.std.proofs.Common.{◌∷◌, ◌++◌, length, get_or, drop, take, map, All, Some, add-one, append-nil, drop-cons}
 use Rattle.std.proofs.lemmas.List.{length-map, get_or-map, drop_all, take_more, map-append}
 use Rattle.std.proofs.lemmas.Option.{slice_get_within, get_or_from_slice_get}
 use Rattle.std.specs.List.{slice_get}
@@ -11,8 +12,8 @@ use Rattle.exact_numbers.proofs.Spelling.{value_text-decimal}
 use Rattle.exact_numbers.specs.declared.dec.Dec.{Dec}
 use Rattle.mps_model.specs.Built.{bound_of, entry_of}
 use Rattle.mps_model.specs.Valid.{AreColumns}
-use Rattle.texts.specs.Names.{IsName}
-use Rattle.texts.specs.WordLines.{WordLine, indented, line_text, lines_text, unless_empty}
+use Rattle.text_base.specs.Names.{IsName}
+use Rattle.text_base.specs.WordLines.{WordLine, indented, line_text, lines_text, unless_empty}
 use Rattle.written_texts.proofs.Writing.{line_after, lines_after, rest_written}
 
 pub markers_more : (b m : Bool) (i : ℕ) → markers_after b m i ≤ i + 1
@@ -38,7 +39,9 @@ row_found rows names name i same found =
     let inside : i < length rows = omega (arith, slice_get_within (map (λ (r : MpsRow). r.name) rows) i name at, length-map rows (λ (r : MpsRow). r.name)) in
     record { within = inside; named = sym (get_or_from_slice_get (map (λ (r : MpsRow). r.name) rows) i name [] at) ∙ get_or-map (λ (r : MpsRow). r.name) rows i no_mps_row [] inside }
 
-pub found_short : (rows : List MpsRow) (names : List (List ℕ)) (name : List ℕ) (i : ℕ) → All (λ (r : MpsRow). IsName r.name) rows → names ≡ map (λ (r : MpsRow). r.name) rows → Some name ≡ slice_get names i → length name ≤ 255
+pub found_short : (rows : List MpsRow) (names : List (List ℕ)) (name : List ℕ) (i : ℕ)
+    → All (λ (r : MpsRow). IsName r.name) rows → names ≡ map (λ (r : MpsRow). r.name) rows → Some name ≡ slice_get names i
+    → length name ≤ 255
 found_short rows names name i all same found =
     let is = row_found rows names name i same found in
     subst (λ n. length n ≤ 255) (sym is.named) (all i no_mps_row is.within).most
@@ -59,7 +62,9 @@ entry_written rows names word row ts i t out0 out1 out2 h is same found first se
     line_after out0 out1 out2 (map line (map entry_of (take i ts))) (line (entry_of t)) first now ∙ ap (λ ls. out0 ++ lines_text ls) (sym more)
 
 -- a section's word, and after it its lines
-pub section_written : (word : List ℕ) (lines : List WordLine) (out0 out1 out2 : List ℕ) → out1 ≡ out0 ++ line_text (word ∷ []) → out2 ≡ out1 ++ lines_text lines → out2 ≡ out0 ++ lines_text (section word ∷ lines)
+pub section_written : (word : List ℕ) (lines : List WordLine) (out0 out1 out2 : List ℕ)
+    → out1 ≡ out0 ++ line_text (word ∷ []) → out2 ≡ out1 ++ lines_text lines
+    → out2 ≡ out0 ++ lines_text (section word ∷ lines)
 section_written word lines out0 out1 out2 first second =
     lines_after out0 out1 out2 (section word ∷ []) lines (first ∙ ap (λ x. out0 ++ x) (sym (append-nil (line_text (section word))))) second
 

@@ -3,7 +3,7 @@ ghost use Rattle.std.specs.Prelude.{◌≡◌, ◌<◌, ◌≤◌, ◌++◌, ◌
 ghost use Rattle.mps_model.specs.Built.{bound_of};
 ghost use Rattle.mps_model.specs.Text.{bound_line, bound_text, value_words, section};
 ghost use Rattle.exact_numbers.specs.Values.{text_of};
-ghost use Rattle.texts.specs.WordLines.{indented, line_text, lines_text, unless_empty};
+ghost use Rattle.text_base.specs.WordLines.{indented, line_text, lines_text, unless_empty};
 
 use crate::lines::put_bound;
 use crate::names::MpsName;

@@ -3,13 +3,13 @@ ghost use Rattle.std.specs.Prelude.{◌≡◌, ◌<◌, ◌^◌, ◌++◌, ◌�
 ghost use Rattle.mps_model.specs.Text.{section, marker_line, change_lines, markers_after, column_lines};
 ghost use Rattle.mps_model.specs.Valid.{AreColumns};
 ghost use Rattle.exact_numbers.specs.Values.{text_of};
-ghost use Rattle.texts.specs.Names.{IsName};
-ghost use Rattle.texts.specs.WordLines.{line_text, lines_text};
+ghost use Rattle.text_base.specs.Names.{IsName};
+ghost use Rattle.text_base.specs.WordLines.{line_text, lines_text};
 
 use crate::entries::put_entries;
 use mps_model::{MpsColumn, MpsRow};
 use std::alloc::AllocError;
-use texts::TextLines;
+use text_base::TextLines;
 use written_texts::{LineText, put, put_end, put_line, put_next, put_number};
 
 fn put_marker(out: &mut Vec<u8>, i: u32, word: &[u8]) -> Result<(), AllocError>

@@ -3,15 +3,15 @@ ghost use Rattle.std.specs.Prelude.{◌≡◌, ◌<◌, ◌≤◌, ◌++◌, ◌
 ghost use Rattle.mps_model.specs.Built.{entry_of};
 ghost use Rattle.mps_model.specs.Text.{entry_lines, section};
 ghost use Rattle.exact_numbers.specs.Values.{text_of};
-ghost use Rattle.texts.specs.Names.{IsName};
-ghost use Rattle.texts.specs.WordLines.{indented, line_text, lines_text, unless_empty};
+ghost use Rattle.text_base.specs.Names.{IsName};
+ghost use Rattle.text_base.specs.WordLines.{indented, line_text, lines_text, unless_empty};
 
 use crate::lines::put_entry;
 use crate::names::MpsName;
 use exact_numbers::Dec;
 use mps_model::MpsRow;
 use std::alloc::{AllocError, Global};
-use texts::TextLines;
+use text_base::TextLines;
 use written_texts::{LineText, put, put_line};
 
 // Appends the line of an entry, by way of the room of a line.

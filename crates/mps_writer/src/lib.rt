@@ -5,7 +5,7 @@ ghost use Rattle.std.specs.Prelude.{◌≡◌, ◌++◌, ◌∷◌, OnOk, IfOk, 
 ghost use Rattle.exact_numbers.specs.Values.{dec_value, text_of, value_text};
 ghost use Rattle.mps_model.specs.Mps.{with_values};
 ghost use Rattle.mps_model.specs.Text.{mps_text_by, name_lines, sense_lines, section, row_line};
-ghost use Rattle.texts.specs.WordLines.{lines_text};
+ghost use Rattle.text_base.specs.WordLines.{lines_text};
 
 mod bounds;
 mod columns;

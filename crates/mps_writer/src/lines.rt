@@ -2,7 +2,7 @@
 ghost use Rattle.std.specs.Prelude.{◌≡◌, ◌+◌, ◌≤◌, ◌++◌, ◌∷◌, [], length, codes};
 ghost use Rattle.mps_model.specs.Text.{bound_text, kind_text, row_line, value_words};
 ghost use Rattle.exact_numbers.specs.Values.{text_of};
-ghost use Rattle.texts.specs.WordLines.{indented, line_text, spaced};
+ghost use Rattle.text_base.specs.WordLines.{indented, line_text, spaced};
 ghost use Rattle.mps_writer.specs.Names.{name_bytes};
 
 use crate::names::{MpsName, put_name};

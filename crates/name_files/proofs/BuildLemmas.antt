@@ -6,8 +6,8 @@ use Rattle.std.proofs.Math.ListN.{get_or-append}
 use Rattle.std.proofs.Math.Seq.{get_or-append_seam}
 use Rattle.std.proofs.lemmas.List.Elements.{All-take}
 use Rattle.std.proofs.lemmas.List.Sums.{sum_by-take-le}
-use Rattle.fractions.specs.Rational.{zero_ℚ}
-use Rattle.texts.specs.Names.{IsName}
+use Rattle.exact_numbers.specs.Rational.{zero_ℚ}
+use Rattle.text_base.specs.Names.{IsName}
 use Rattle.exact_numbers.specs.declared.dec.Dec.{Dec}
 use Rattle.exact_numbers.specs.Values.{dec_value}
 use Rattle.mps_model.specs.declared.kinds.RowKind.{RowKind}
@@ -71,7 +71,9 @@ can_add_range es i e m a lt is same =
       new = subst (All (IsOtherEntry e.row)) (sym same) (before (λ (e g : Entry Dec). e.row ≢ g.row) es i e a.entries.apart lt is);
     }
 
-pub can_add_bound : (bs : List (Bound Dec)) (i : ℕ) (b : Bound Dec) (m : Mps Dec) → AreBounds dec_value (length m.columns) bs → i < length bs → b ≡ get_or bs i b → m.bounds ≡ take i bs → CanAddBound m b.kind b.column b.value
+pub can_add_bound : (bs : List (Bound Dec)) (i : ℕ) (b : Bound Dec) (m : Mps Dec)
+    → AreBounds dec_value (length m.columns) bs → i < length bs → b ≡ get_or bs i b → m.bounds ≡ take i bs
+    → CanAddBound m b.kind b.column b.value
 can_add_bound bs i b m a lt is same =
     record {
       within = subst (λ (b : Bound Dec). b.column < length m.columns) (sym is) (a.within i b lt);
@@ -124,7 +126,9 @@ row_put f xs i r lt is name kind called same old m new first second =
 -- ---- columns with other names
 
 module _ (f : List ℕ → List ℕ) (xs : List (Column Dec)) (i : ℕ) (x : Column Dec) (lt : i < length xs) (is : x ≡ get_or xs i x) (name : List ℕ) (called : name ≡ f x.name) where
-  pub can_put_column : (n : ℕ) (m : Mps Dec) → AreColumns n (map (named_column f) xs) → length m.rows ≡ n → m.columns ≡ map (named_column f) (take i xs) → AreColumns (length m.rows) (m.columns ++ record x { name = name } ∷ [])
+  pub can_put_column : (n : ℕ) (m : Mps Dec) → AreColumns n (map (named_column f) xs) → length m.rows ≡ n
+      → m.columns ≡ map (named_column f) (take i xs) → AreColumns (length m.rows)
+      (m.columns ++ record x { name = name } ∷ [])
   can_put_column n m a rows same =
       let more : take (i + 1) (map (named_column f) xs) ≡ m.columns ++ record x { name = name } ∷ [] =
       take-map (named_column f) (i + 1) xs ∙ sym (one_more (named_column f) xs i x lt is)

@@ -3,13 +3,13 @@ use Rattle.std.proofs.Common.{inl, inr, ℕ, zero, suc, List, [], ◌∷◌, ◌
 use Rattle.std.specs.List.{AllByRecursion}
 use Rattle.std.proofs.lemmas.Bool.{cond_both}
 use Rattle.std.proofs.lemmas.List.Elements.{All-cons, recursion_from_All}
-use Rattle.program_meaning.specs.Linear.{Form, Row, Variable, Linear, has_side}
-use Rattle.program_meaning.specs.Names.{row_name, variable_name}
-use Rattle.texts.proofs.AllLemmas.{all_push}
+use Rattle.linear_program.specs.Linear.{Form, Row, Variable, Linear, has_side}
+use Rattle.linear_program.specs.Names.{row_name, variable_name}
+use Rattle.text_base.proofs.AllLemmas.{all_push}
 use Rattle.mps_model.specs.Mps.{MpsRow, Column}
-use Rattle.fractions.specs.Rational.{ℚ}
+use Rattle.exact_numbers.specs.Rational.{ℚ}
 use Rattle.scaled_program.specs.Program.{ScaledRow, scaled_row, exported_rows, tie, z_form, z_variable}
-use Rattle.exported_program.specs.Program.{mps_row, columns_of, mps_of, program, tied_program}
+use Rattle.scaled_program.specs.ExportedProgram.{mps_row, columns_of, mps_of, program, tied_program}
 use Rattle.name_files.specs.Renamed.{IsExportedName, HasExportedNames, IsNamedLinear}
 
 module _ (P : List ℕ → Type 0) where
@@ -25,7 +25,9 @@ module _ (P : List ℕ → Type 0) where
   rows_named (r ∷ rows) all zero d lt = all.0
   rows_named (r ∷ rows) all (suc k) d lt = rows_named rows all.1 k d (omega arith)
 
-  columns_named : (objective : Form) (rows : List ScaledRow) (j : ℕ) (variables : List Variable) → AllByRecursion (λ (v : Variable). P v.name) variables → All P (map (λ (c : Column ℚ). c.name) (columns_of objective rows j variables))
+  columns_named : (objective : Form) (rows : List ScaledRow) (j : ℕ) (variables : List Variable)
+      → AllByRecursion (λ (v : Variable). P v.name) variables
+      → All P (map (λ (c : Column ℚ). c.name) (columns_of objective rows j variables))
   unfolding columns_of
   columns_named objective rows j [] all k d lt = absurd (omega arith)
   columns_named objective rows j (v ∷ variables) all zero d lt = all.0

@@ -5,11 +5,11 @@ use Rattle.std.proofs.lemmas.Bool.{eqb-true}
 use Rattle.std.proofs.lemmas.Bool.Decides.{nat_tests}
 use Rattle.std.proofs.lemmas.List.{append-nil, length-map, take_all}
 use Rattle.std.proofs.lemmas.Grind.{flat_map-append}
-use Rattle.texts.specs.Judged.{first_reason, Takes}
-use Rattle.texts.specs.Stopped.{IfFault}
-use Rattle.texts.specs.Words.{words_of, row_of, texts, word_at}
-use Rattle.texts.specs.declared.stop.Stop.{Stop}
-use Rattle.texts.specs.declared.stop.Stop.TheVariants.{Fault, Memory}
+use Rattle.text_base.specs.Judged.{first_reason, Takes}
+use Rattle.text_base.specs.Stopped.{IfFault}
+use Rattle.text_base.specs.Words.{words_of, row_of, texts, word_at}
+use Rattle.text_base.specs.declared.stop.Stop.{Stop}
+use Rattle.text_base.specs.declared.stop.Stop.TheVariants.{Fault, Memory}
 use Rattle.name_files.specs.declared.fault.NameReason.{NameReason}
 use Rattle.name_files.specs.Names.{Counts, Standing, standing, names_of, name_tests, line_reason, with_name}
 
@@ -50,8 +50,14 @@ one_word : (words : List (List ℕ)) → (length words == 0) ≡ false → take 
 one_word [] e = absurd cc
 one_word (word ∷ words) e = refl
 
-pub standing-more : (c : Counts) (lines : List (List ℕ)) (line : List ℕ) → (length (words_of line) == 0) ≡ false → standing c (lines ++ line ∷ []) ≡ with_name c (standing c lines) (word_at (words_of line) 0)
-standing-more c lines line e = rw (names_more lines line, one_word (words_of line) e, length-append (names_of lines) (word_at (words_of line) 0 ∷ []), take_more c.used (names_of lines) (word_at (words_of line) 0)) refl
+pub standing-more : (c : Counts) (lines : List (List ℕ)) (line : List ℕ) → (length (words_of line) == 0) ≡ false
+    → standing c (lines ++ line ∷ []) ≡ with_name c (standing c lines) (word_at (words_of line) 0)
+standing-more c lines line e = rw (
+  names_more lines line,
+  one_word (words_of line) e,
+  length-append (names_of lines) (word_at (words_of line) 0 ∷ []),
+  take_more c.used (names_of lines) (word_at (words_of line) 0),
+) refl
 
 none_taken : (words : List (List ℕ)) → (length words == 0) ≡ true → take 1 words ++ [] ≡ []
 none_taken [] e = refl
@@ -64,12 +70,14 @@ pub left_out : (c : Counts) (s : Standing) (line : List ℕ) → (length (words_
 unfolding line_reason
 left_out c s line e = rw e refl
 
-judged : (c : Counts) (s : Standing) (line : List ℕ) (row : List (List ℕ)) → (length (words_of line) == 0) ≡ false → row ≡ row_of line → line_reason c s (words_of line) ≡ first_reason (name_tests c s row)
+judged : (c : Counts) (s : Standing) (line : List ℕ) (row : List (List ℕ)) → (length (words_of line) == 0) ≡ false
+    → row ≡ row_of line → line_reason c s (words_of line) ≡ first_reason (name_tests c s row)
 unfolding line_reason
 judged c s line row e is = rw e (sym (ap (λ ws. first_reason (name_tests c s ws)) is ∙ tests_of_row c s (words_of line)))
 
 -- what taking a line that has words says
-pub line_done : (c d : Counts) (old new : Standing) (line : List ℕ) (row : List (List ℕ)) (n : ℕ) (r : Result (Unit {0}) (Stop NameReason)) → (length (words_of line) == 0) ≡ false → row ≡ row_of line → d ≡ c
+pub line_done : (c d : Counts) (old new : Standing) (line : List ℕ) (row : List (List ℕ)) (n : ℕ)
+    (r : Result (Unit {0}) (Stop NameReason)) → (length (words_of line) == 0) ≡ false → row ≡ row_of line → d ≡ c
     → Takes (name_tests c old row) (with_name c old (word_at row 0)) r new
     → OnOk r ((lines : List (List ℕ)) → n ≡ length lines + 1 → old ≡ standing c lines → new ≡ standing d (lines ++ line ∷ []))
     × OnOk r ((lines : List (List ℕ)) → n ≡ length lines + 1 → old ≡ standing c lines → line_reason c (standing c lines) (words_of line) ≡ None)

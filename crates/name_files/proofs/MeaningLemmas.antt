@@ -2,15 +2,17 @@
 use Rattle.std.proofs.Common.{◌≡◌, ◌∙◌, ℕ, zero, suc, ◌<◌, Bool, ◌||◌, List, [], ◌∷◌, length, map, get_or, refl, sym, ap, subst}
 use Rattle.std.specs.Prelude.{IsTrue}
 use Rattle.std.proofs.lemmas.List.{length-map}
-use Rattle.fractions.specs.Rational.{ℚ, ◌-ℚ◌}
-use Rattle.fractions.specs.Sums.{sum_below}
-use Rattle.fractions.proofs.Adding.{sum_below_same}
-use Rattle.program_meaning.specs.Linear.{IsInside, Interval, value_at}
+use Rattle.exact_numbers.specs.Rational.{ℚ, ◌-ℚ◌}
+use Rattle.exact_numbers.specs.Sums.{sum_below}
+use Rattle.exact_numbers.proofs.Adding.{sum_below_same}
+use Rattle.linear_program.specs.Linear.{IsInside, Interval, value_at}
 use Rattle.exact_numbers.specs.declared.dec.Dec.{Dec}
 use Rattle.exact_numbers.specs.Values.{dec_value}
 use Rattle.mps_model.specs.declared.kinds.RowKind.{RowKind}
 use Rattle.mps_model.specs.declared.kinds.RowKind.TheVariants.{N, L, G, E}
-use Rattle.mps_model.specs.Mps.{MpsRow, Entry, Column, Mps, with_values, column_with, no_mps_row, no_column, column_at, part_of_row, row_value, row_interval, row_sides, rhs_at, at_row, column_interval, has_whole_record, is_whole_column, IsMpsFeasible, objective_row, mps_objective}
+use Rattle.mps_model.specs.Mps.{MpsRow, Entry, Column, Mps, with_values, column_with, no_mps_row, no_column, column_at}
+use Rattle.mps_model.specs.Mps.{part_of_row, row_value, row_interval, row_sides, rhs_at, at_row, column_interval}
+use Rattle.mps_model.specs.Mps.{has_whole_record, is_whole_column, IsMpsFeasible, objective_row, mps_objective}
 use Rattle.name_files.specs.Renamed.{named_row, named_column, with_names, HaveOneMeaning}
 
 abbrev pub Naming : Type 0
@@ -59,7 +61,9 @@ turned m n s =
 feasible : (m n : Mps ℚ) (xs : List ℚ) → LookAlike m n → IsMpsFeasible m xs → IsMpsFeasible n xs
 feasible m n xs s f =
     record {
-      rows = λ i lt. subst (λ (v : ℚ). IsInside (row_interval n i) v) (s.value xs i) (subst (λ (t : Interval). IsInside t (row_value m xs i)) (s.interval i) (f.rows i (subst (λ (k : ℕ). i < k) (sym s.rows) lt)));
+      rows = λ i lt. subst (λ (v : ℚ). IsInside (row_interval n i) v) (s.value xs i)
+          (subst (λ (t : Interval). IsInside t (row_value m xs i)) (s.interval i)
+          (f.rows i (subst (λ (k : ℕ). i < k) (sym s.rows) lt)));
       bounds = λ j lt. subst (λ (t : Interval). IsInside t (value_at xs j)) (s.bounds j) (f.bounds j (subst (λ (k : ℕ). j < k) (sym s.columns) lt));
       whole = λ j lt is. f.whole j (subst (λ (k : ℕ). j < k) (sym s.columns) lt) (subst (λ (b : Bool). IsTrue b) (sym (s.whole j)) is);
     }
@@ -71,7 +75,8 @@ value_kept : (row column : Naming) (m : Mps ℚ) (xs : List ℚ) (i : ℕ) → r
 unfolding with_names row_value
 value_kept row column m xs i =
     ap (sum_below (λ j. part_of_row i (get_or (map (named_column column) m.columns) j no_column).entries (value_at xs j))) (length-map m.columns (named_column column))
-    ∙ sum_below_same (λ j. part_of_row i (get_or (map (named_column column) m.columns) j no_column).entries (value_at xs j)) (λ j. part_of_row i (column_at m j).entries (value_at xs j)) (length m.columns)
+    ∙ sum_below_same (λ j. part_of_row i (get_or (map (named_column column) m.columns) j no_column).entries
+    (value_at xs j)) (λ j. part_of_row i (column_at m j).entries (value_at xs j)) (length m.columns)
     (λ j lt. ap (λ (es : List (Entry ℚ)). part_of_row i es (value_at xs j)) (entries_kept column m.columns j))
 
 look_alike : (row column : Naming) (m : Mps ℚ) → LookAlike (with_names row column m) m

@@ -6,17 +6,17 @@ use Rattle.std.proofs.lemmas.Fmt.{length-decimal-le}
 use Rattle.std.proofs.lemmas.List.{length-map, get_or-map}
 use Rattle.std.proofs.lemmas.List.Elements.{All-map}
 use Rattle.std.proofs.lemmas.List.Sums.{sum_by-cons}
-use Rattle.texts.specs.Names.{IsName}
-use Rattle.texts.proofs.AllLemmas.{pairs_mapped}
+use Rattle.text_base.specs.Names.{IsName}
+use Rattle.text_base.proofs.AllLemmas.{pairs_mapped}
 use Rattle.exact_numbers.specs.declared.dec.Dec.{Dec}
 use Rattle.exact_numbers.specs.Values.{dec_value}
-use Rattle.program_meaning.specs.Names.{row_name, variable_name}
+use Rattle.linear_program.specs.Names.{row_name, variable_name}
 use Rattle.mps_model.specs.Mps.{MpsRow, Column, Mps, no_mps_row}
 use Rattle.mps_model.specs.Valid.{AreRows, AreColumns, AreEntries, AreRanges, AreBounds, IsPartOfMps, IsComplete, IsMps, IsOtherRow, HasEntries, IsNameOrEmpty, marker_word, entry_count}
-use Rattle.name_lists.specs.Names.{AreNames, is_reserved}
-use Rattle.name_lists.specs.Names.{index_named}
+use Rattle.mps_model.specs.Names.{AreNames, is_reserved}
+use Rattle.mps_model.specs.Names.{index_named}
 use Rattle.name_files.specs.Renamed.{marked, named_at, new_name, named_row, named_column, named_rows, named_columns, named, with_names, IsExportedName, AreExportedNames, HasExportedNames}
-use Rattle.name_lists.proofs.NumeralLemmas.{named_so}
+use Rattle.mps_model.proofs.NumeralLemmas.{named_so}
 use Rattle.name_files.proofs.MeaningLemmas.{kept_at, same_objective_row}
 
 -- ---- lists that were mapped
@@ -93,7 +93,9 @@ rows_named names rows are exported a =
     let f = named_row (new_name row_name names) in
     record {
       few = omega (arith, a.few, length-map rows f);
-      named = All-map (λ (r : MpsRow). IsName r.name) f rows (λ i d lt. new_is_name row_name names are (get_or rows i d).name (a.named i d lt) (short 99 (length names) exported.few (get_or rows i d).name (exports i d lt)));
+      named = All-map (λ (r : MpsRow). IsName r.name) f rows
+          (λ i d lt. new_is_name row_name names are (get_or rows i d).name (a.named i d lt)
+          (short 99 (length names) exported.few (get_or rows i d).name (exports i d lt)));
       apart = pairs_mapped (λ (r s : MpsRow). r.name ≢ s.name) f rows (λ i j d lt within. new_apart row_name names are (get_or rows i d).name (get_or rows j d).name (a.apart i j d lt within));
       no_marker = All-map (IsOtherRow marker_word) f rows (λ i d lt. new_is_no_marker row_name names are (get_or rows i d).name);
     }
@@ -104,15 +106,21 @@ entries_kept f (c ∷ columns) =
     let count = λ (c : Column Dec). length c.entries in
     sum_by-cons count (named_column f c) (map (named_column f) columns) ∙ ap (λ (n : ℕ). length c.entries + n) (entries_kept f columns) ∙ sym (sum_by-cons count c columns)
 
-columns_named : (names : List (List ℕ)) (n : ℕ) (columns : List (Column Dec)) → AreNames names → AreExportedNames variable_name (length names) (map (λ c. c.name) columns) → AreColumns n columns → AreColumns n (named_columns names columns)
+columns_named : (names : List (List ℕ)) (n : ℕ) (columns : List (Column Dec)) → AreNames names
+    → AreExportedNames variable_name (length names) (map (λ c. c.name) columns) → AreColumns n columns
+    → AreColumns n (named_columns names columns)
 columns_named names n columns are exported a =
     let exports = all_unmapped (IsExportedName variable_name (length names)) (λ (c : Column Dec). c.name) columns exported.each in
     let f = named_column {V = Dec} (new_name variable_name names) in
     record {
       few = omega (arith, a.few, length-map columns f);
       few_entries = omega (arith, a.few_entries, entries_kept (new_name variable_name names) columns);
-      named = All-map (λ (c : Column Dec). IsName c.name) f columns (λ i d lt. new_is_name variable_name names are (get_or columns i d).name (a.named i d lt) (short 120 (length names) exported.few (get_or columns i d).name (exports i d lt)));
-      apart = pairs_mapped (λ (c e : Column Dec). c.name ≢ e.name) f columns (λ i j d lt within. new_apart variable_name names are (get_or columns i d).name (get_or columns j d).name (a.apart i j d lt within));
+      named = All-map (λ (c : Column Dec). IsName c.name) f columns
+          (λ i d lt. new_is_name variable_name names are (get_or columns i d).name (a.named i d lt)
+          (short 120 (length names) exported.few (get_or columns i d).name (exports i d lt)));
+      apart = pairs_mapped (λ (c e : Column Dec). c.name ≢ e.name) f columns
+          (λ i j d lt within. new_apart variable_name names are (get_or columns i d).name (get_or columns j d).name
+          (a.apart i j d lt within));
       entries = All-map (λ (c : Column Dec). AreEntries n c.entries) f columns a.entries;
     }
 

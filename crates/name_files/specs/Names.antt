@@ -2,14 +2,14 @@
 -- own.
 use Rattle.std.specs.Prelude.{◌≡◌, ℕ, ◌+◌, ◌==◌, Bool, not, ◌&&◌, ◌||◌, nat_le, nat_lt, List, [], ◌∷◌, ◌++◌, length, take, Option, Some, None, is_some, if◌then◌else◌}
 use Rattle.std.specs.List.{flat_map}
-use Rattle.texts.specs.Judged.{Rules, first_reason}
-use Rattle.texts.specs.Names.{is_name, place_of}
-use Rattle.texts.specs.Words.{words_of, word_at}
-use Rattle.texts.specs.declared.lines.LineFault.{LineFault}
-use Rattle.texts.specs.declared.lines.LineFault.TheVariants.{LineTooLong as LongLine, InputTooLong as LongInput}
+use Rattle.text_base.specs.Judged.{Rules, first_reason}
+use Rattle.text_base.specs.Names.{is_name, place_of}
+use Rattle.text_base.specs.Words.{words_of, word_at}
+use Rattle.text_base.specs.declared.lines.LineFault.{LineFault}
+use Rattle.text_base.specs.declared.lines.LineFault.TheVariants.{LineTooLong as LongLine, InputTooLong as LongInput}
 use Rattle.name_files.specs.declared.fault.NameReason.{NameReason}
 use Rattle.name_files.specs.declared.fault.NameReason.TheVariants.{BadName, Repeated, Reserved, OtherCount, LineTooLong, InputTooLong}
-use Rattle.name_lists.specs.Names.{is_reserved}
+use Rattle.mps_model.specs.Names.{is_reserved}
 
 -- how many names are used, and how many may follow that are not
 pub record Counts : Type 0 where

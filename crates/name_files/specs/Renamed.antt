@@ -1,12 +1,12 @@
 -- A program whose rows and columns get other names.
 use Rattle.std.specs.Prelude.{◌≡◌, ◌⊎◌, ◌↔◌, ℕ, ◌<◌, ◌≤◌, ◌^◌, List, [], ◌∷◌, length, map, slice_index_or, Option, Some, None, All}
-use Rattle.fractions.specs.Rational.{ℚ}
-use Rattle.program_meaning.specs.Linear.{Linear}
-use Rattle.program_meaning.specs.Names.{row_name, variable_name}
+use Rattle.exact_numbers.specs.Rational.{ℚ}
+use Rattle.linear_program.specs.Linear.{Linear}
+use Rattle.linear_program.specs.Names.{row_name, variable_name}
 use Rattle.mps_model.specs.Mps.{MpsRow, Column, Mps, IsMpsFeasible, mps_objective}
-use Rattle.exported_program.specs.Program.{obj_name}
+use Rattle.scaled_program.specs.ExportedProgram.{obj_name}
 use Rattle.scaled_program.specs.Program.{z_name, zdef_name}
-use Rattle.name_lists.specs.Names.{index_named}
+use Rattle.mps_model.specs.Names.{index_named}
 
 -- ---- The new names.
 

@@ -1,16 +1,16 @@
 // The grammar of files of names, a line at a time.
 ghost use Rattle.std.specs.Prelude.{◌≡◌, ◌<◌, ◌+◌, ◌^◌, ◌==◌, ◌&&◌, [], length, None, true, false, OnOk, MatchOption};
-ghost use Rattle.texts.specs.Judged.{Takes, first_reason};
-ghost use Rattle.texts.specs.Names.{IsName, is_name};
-ghost use Rattle.texts.specs.Words.{texts, word_at};
-ghost use Rattle.name_lists.specs.Names.{is_reserved};
+ghost use Rattle.text_base.specs.Judged.{Takes, first_reason};
+ghost use Rattle.text_base.specs.Names.{IsName, is_name};
+ghost use Rattle.text_base.specs.Words.{texts, word_at};
+ghost use Rattle.mps_model.specs.Names.{is_reserved};
 ghost use Rattle.name_files.specs.Names.{standing, name_tests, used_tests, with_name, is_used, is_full, is_sole_name, tests_if};
 
 use crate::fault::NameReason;
-use name_lists::NameList;
+use mps_model::NameList;
 use std::alloc::{AllocError, Global};
 use std::marker::Model;
-use texts::{Grammar, LineFault, Row, Stop, is_name};
+use text_base::{Grammar, LineFault, Row, Stop, is_name};
 
 /// The names so far.
 #[derive(Drop)]

@@ -1,19 +1,19 @@
 // Laws of names. Each is proved by a function with an empty body.
 ghost use Rattle.std.specs.Prelude.{◌≡◌, ◌<◌, ◌^◌, List, ℕ, length};
-ghost use Rattle.texts.specs.Judged.{HasOneOutcome};
-ghost use Rattle.texts.specs.Reading.{IsRead, lines_of, last_of};
+ghost use Rattle.text_base.specs.Judged.{HasOneOutcome};
+ghost use Rattle.text_base.specs.Reading.{IsRead, lines_of, last_of};
 ghost use Rattle.exact_numbers.specs.declared.dec.Dec.{Dec};
 ghost use Rattle.exact_numbers.specs.Values.{dec_value};
 ghost use Rattle.mps_model.specs.Mps.{Mps, with_values};
 ghost use Rattle.mps_model.specs.Valid.{IsMps};
-ghost use Rattle.name_lists.specs.Names.{AreNames};
+ghost use Rattle.mps_model.specs.Names.{AreNames};
 ghost use Rattle.name_files.specs.Names.{Counts, name_rules, SaysNames};
-ghost use Rattle.program_meaning.specs.Linear.{Linear};
-ghost use Rattle.exported_program.specs.Program.{program, tied_program};
+ghost use Rattle.linear_program.specs.Linear.{Linear};
+ghost use Rattle.scaled_program.specs.ExportedProgram.{program, tied_program};
 ghost use Rattle.name_files.specs.Renamed.{named, HasExportedNames, HaveOneMeaning, IsNamedLinear};
 
 /// Each text is free of faults or has one first fault, and what it says is one list of names.
-#[tactic(auto, using(texts::proofs::JudgedLemmas::one_outcome))]
+#[tactic(auto, using(text_base::proofs::JudgedLemmas::one_outcome))]
 pub fn one_reading()
     ensures outcome { (counts : Counts) (text : List ℕ)
         → HasOneOutcome (name_rules counts) (lines_of text) (last_of text) }

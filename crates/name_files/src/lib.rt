@@ -10,6 +10,6 @@ mod renaming;
 
 pub use fault::{NameFault, NameReason};
 pub use grammar::NameGrammar;
-pub use name_lists::{NameList, numbered};
+pub use mps_model::{NameList, numbered};
 pub use reader::NameReader;
 pub use renaming::rename;

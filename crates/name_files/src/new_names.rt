@@ -1,12 +1,12 @@
 // What a name becomes.
 ghost use Rattle.std.specs.Prelude.{◌≡◌, ◌≤◌, ◌^◌, ◌∷◌, length, IfOk};
 ghost use Rattle.std.specs.Fmt.{decimal};
-ghost use Rattle.texts.specs.Names.{IsName};
+ghost use Rattle.text_base.specs.Names.{IsName};
 ghost use Rattle.name_files.specs.Renamed.{marked, new_name};
 
-use name_lists::{NameList, numbered};
+use mps_model::{NameList, numbered};
 use std::alloc::{AllocError, Global};
-use texts::Name;
+use text_base::Name;
 
 // The name with an `@` before it.
 fn marked(alloc: Global, old: &[u8]) -> Result<Name, AllocError>
@@ -20,7 +20,7 @@ fn marked(alloc: Global, old: &[u8]) -> Result<Name, AllocError>
 }
 
 /// The name of the number after this letter, or else the old name marked.
-#[tactic(auto, using(name_lists::proofs::NumeralLemmas::named_so))]
+#[tactic(auto, using(mps_model::proofs::NumeralLemmas::named_so))]
 pub(crate) fn new_name(
     alloc: Global,
     letter: u8,

@@ -1,17 +1,17 @@
 // A reader of files of names.
 ghost use Rattle.std.specs.Prelude.{◌≡◌, ◌++◌, List, ℕ, [], IfOk, IfErr, IfSome, OnOk, Err, None};
 ghost use Rattle.std.specs.Result.{result_err};
-ghost use Rattle.texts.specs.Stopped.{IfFault};
-ghost use Rattle.texts.specs.Reading.{IsFreeSoFar, HasFaultSoFar};
+ghost use Rattle.text_base.specs.Stopped.{IfFault};
+ghost use Rattle.text_base.specs.Reading.{IsFreeSoFar, HasFaultSoFar};
 ghost use Rattle.name_files.specs.Names.{name_rules};
 ghost use Rattle.name_files.specs.Reader.{IsFed, ReadsNames};
 
 use crate::fault::NameFault;
 use crate::grammar::NameGrammar;
-use name_lists::NameList;
+use mps_model::NameList;
 use std::alloc::{AllocError, Global};
 use std::marker::Model;
-use texts::{Reader, Stop};
+use text_base::{Reader, Stop};
 
 /// Reads a file of names that comes in pieces.
 #[derive(Drop)]

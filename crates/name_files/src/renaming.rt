@@ -7,10 +7,9 @@ ghost use Rattle.name_files.specs.Renamed.{named, named_rows, named_columns, Has
 
 use crate::new_names::new_name;
 use exact_numbers::Dec;
-use mps_model::{BoundKind, Mps, MpsBuilder, MpsColumn, MpsRow};
-use name_lists::NameList;
+use mps_model::{BoundKind, Mps, MpsBuilder, MpsColumn, MpsRow, NameList};
 use std::alloc::{AllocError, Global};
-use texts::Name;
+use text_base::Name;
 
 // The program's own name.
 fn own_name(alloc: Global, mps: &Mps) -> Result<Option<Name>, AllocError>

@@ -1,13 +1,15 @@
 -- What header lines say, and what is wrong with one, step by step.
-use Rattle.std.proofs.Common.{◌≡◌, ◌∙◌, ℕ, ◌+◌, ◌-◌, ◌<◌, ◌≤◌, Bool, true, false, List, [], ◌∷◌, ◌++◌, length, get_or, take, Option, Some, None, refl, sym, ap, arith, min, unwrap_or, Bor, ◌==◌, ◌&&◌, ℤ, cond, filter_map, set, ◌≢◌, get_or-set_other, get_or-set_same, below_more, suc}
+use Rattle.std.proofs.Common.{◌≡◌, ◌∙◌, ℕ, ◌+◌, ◌-◌, ◌<◌, ◌≤◌, Bool, true, false, List, [], ◌∷◌, ◌++◌, length, get_or}
+use Rattle.std.proofs.Common.{take, Option, Some, None, refl, sym, ap, arith, min, unwrap_or, Bor, ◌==◌, ◌&&◌, ℤ, cond}
+use Rattle.std.proofs.Common.{filter_map, set, ◌≢◌, get_or-set_other, get_or-set_same, below_more, suc}
 use Rattle.std.proofs.lemmas.List.{get_or_past, length-map, map_more, length-append}
 use Rattle.std.proofs.lemmas.List.Elements.{filter_map-append}
 use Rattle.std.proofs.lemmas.Bool.{eqb-true, ltb-true, ltb-false}
 use Rattle.std.specs.Prelude.{option_to_list, find, option_map, nat_lt}
 use Rattle.std.specs.List.{list_all, cons_option}
 use Rattle.std.specs.Option.{option_or}
-use Rattle.texts.specs.Words.{texts}
-use Rattle.texts.specs.Judged.{first_reason}
+use Rattle.text_base.specs.Words.{texts}
+use Rattle.text_base.specs.Judged.{first_reason}
 use Rattle.code_tables.specs.declared.field.Field.{Field}
 use Rattle.code_tables.specs.declared.field.FieldRow.{FieldRow}
 use Rattle.code_tables.specs.Header.{header_rows, field_at, field_in}
@@ -37,7 +39,9 @@ listed-one o w e = by o ∙ ap (λ p. cons_option p []) e
     by None = refl
     by (Some z) = refl
 
-pub signed_more : (words : List (Bor (List ℕ))) (i : ℕ) (before after : List ℤ) (o : Option ℤ) (d : Bor (List ℕ)) → before ≡ filter_map signed_of (texts (take i words)) → i < length words → o ≡ signed_of (get_or words i d).now → after ≡ before ++ option_to_list o → after ≡ filter_map signed_of (texts (take (i + 1) words))
+pub signed_more : (words : List (Bor (List ℕ))) (i : ℕ) (before after : List ℤ) (o : Option ℤ) (d : Bor (List ℕ))
+    → before ≡ filter_map signed_of (texts (take i words)) → i < length words → o ≡ signed_of (get_or words i d).now
+    → after ≡ before ++ option_to_list o → after ≡ filter_map signed_of (texts (take (i + 1) words))
 signed_more words i before after o d kept lt this added =
     let more : texts (take (i + 1) words) ≡ texts (take i words) ++ (get_or words i d).now ∷ [] = map_more (λ w. w.now) words i d lt in
     added ∙ ap (λ b. b ++ option_to_list o) kept ∙ ap (λ l. filter_map signed_of (texts (take i words)) ++ l) (listed-one o _ this)
@@ -60,7 +64,9 @@ find-past (r ∷ rows) line place small past =
     let rest : field_in rows line place ≡ None = find-past rows line place (second_of_both _ _ small) past in
     by (r.line == line) (r.place == place) refl rest (ltb-true _ _ here)
   where
-    by : (s t : Bool) → (r.place == place) ≡ t → field_in rows line place ≡ None → r.place < 7 → option_map (λ q. q.field) (cond (s && t) (Some r) (find (λ q. (q.line == line) && (q.place == place)) rows)) ≡ None
+    by : (s t : Bool) → (r.place == place) ≡ t → field_in rows line place ≡ None → r.place < 7
+        → option_map (λ q. q.field) (cond (s && t) (Some r) (find (λ q. (q.line == line) && (q.place == place)) rows))
+        ≡ None
     by s true e rest lt = absurd (omega (arith, eqb-true r.place place e, lt, past))
     by true false e rest lt = rest
     by false false e rest lt = rest
@@ -98,12 +104,18 @@ next-some place next e = omega (arith, e)
 pub next-small : (place next : ℕ) → next ≡ min (place + 1) 7 → next ≤ 7
 next-small place next e = omega (arith, e)
 
-pub words_fault-at : (line place : ℕ) (words rest : List (List ℕ)) (word : List ℕ) (field : Option Field) (all : Option HeadFault) (f : HeadFault) → words_fault line place words ≡ all → words ≡ word ∷ rest → field ≡ field_at line place → first_reason (word_tests field word) ≡ Some f → all ≡ Some f
+pub words_fault-at : (line place : ℕ) (words rest : List (List ℕ)) (word : List ℕ) (field : Option Field)
+    (all : Option HeadFault) (f : HeadFault) → words_fault line place words ≡ all → words ≡ word ∷ rest
+    → field ≡ field_at line place → first_reason (word_tests field word) ≡ Some f → all ≡ Some f
 unfolding words_fault
 words_fault-at line place words rest word field all f same split is here =
-    sym same ∙ ap (words_fault line place) split ∙ ap (λ g. option_or (first_reason (word_tests g word)) (words_fault line (place + 1) rest)) (sym is) ∙ ap (λ g. option_or g (words_fault line (place + 1) rest)) here
+    sym same ∙ ap (words_fault line place) split ∙ ap (λ g. option_or (first_reason (word_tests g word))
+    (words_fault line (place + 1) rest)) (sym is) ∙ ap (λ g. option_or g (words_fault line (place + 1) rest)) here
 
-pub words_fault-on : (line place next : ℕ) (words rest : List (List ℕ)) (word : List ℕ) (field : Option Field) (all : Option HeadFault) → words_fault line place words ≡ all → words ≡ word ∷ rest → field ≡ field_at line place → first_reason (word_tests field word) ≡ None → place ≤ 7 → next ≡ min (place + 1) 7 → words_fault line next rest ≡ all
+pub words_fault-on : (line place next : ℕ) (words rest : List (List ℕ)) (word : List ℕ) (field : Option Field)
+    (all : Option HeadFault) → words_fault line place words ≡ all → words ≡ word ∷ rest → field ≡ field_at line place
+    → first_reason (word_tests field word) ≡ None → place ≤ 7 → next ≡ min (place + 1) 7
+    → words_fault line next rest ≡ all
 unfolding words_fault
 words_fault-on line place next words rest word field all same split is here small step =
     ap (λ p. words_fault line p rest) step ∙ words_fault-next line place rest small
@@ -117,7 +129,10 @@ words_fault-end line place words all same none = sym same ∙ ap (words_fault li
 
 -- ---- Numbers that are set one after the other.
 
-pub set-done : (i : ℕ) (numbers old : List ℕ) (v : ℕ) (f : ℕ → ℕ → ℕ) → i < length numbers → ((k : ℕ) → k < i → get_or numbers k 0 ≡ f k (get_or old k 0)) → ((k : ℕ) → i ≤ k → get_or numbers k 0 ≡ get_or old k 0) → v ≡ f i (get_or numbers i 0) → (k : ℕ) → k < i + 1 → get_or (set numbers i v) k 0 ≡ f k (get_or old k 0)
+pub set-done : (i : ℕ) (numbers old : List ℕ) (v : ℕ) (f : ℕ → ℕ → ℕ) → i < length numbers
+    → ((k : ℕ) → k < i → get_or numbers k 0 ≡ f k (get_or old k 0))
+    → ((k : ℕ) → i ≤ k → get_or numbers k 0 ≡ get_or old k 0) → v ≡ f i (get_or numbers i 0) → (k : ℕ) → k < i + 1
+    → get_or (set numbers i v) k 0 ≡ f k (get_or old k 0)
 set-done i numbers old v f lt done rest this =
     below_more _ _
     (λ k h. let ne : k ≢ i = omega arith in rw get_or-set_other (done k h))
@@ -126,7 +141,10 @@ set-done i numbers old v f lt done rest this =
 pub set-rest : (i : ℕ) (numbers old : List ℕ) (v : ℕ) → ((k : ℕ) → i ≤ k → get_or numbers k 0 ≡ get_or old k 0) → (k : ℕ) → i + 1 ≤ k → get_or (set numbers i v) k 0 ≡ get_or old k 0
 set-rest i numbers old v rest k past = let ne : k ≢ i = omega arith in rw get_or-set_other (rest k (omega arith))
 
-pub put_in-each : (rows : List FieldRow) (line : ℕ) (words : List (List ℕ)) (old new : List ℕ) → length rows ≡ length old → length new ≡ length old → ((k : ℕ) → k < length old → get_or new k 0 ≡ number_after (get_or rows k no_field_row) line words (get_or old k 0)) → new ≡ put_in rows line words old
+pub put_in-each : (rows : List FieldRow) (line : ℕ) (words : List (List ℕ)) (old new : List ℕ)
+    → length rows ≡ length old → length new ≡ length old → ((k : ℕ) → k < length old
+    → get_or new k 0 ≡ number_after (get_or rows k no_field_row) line words (get_or old k 0))
+    → new ≡ put_in rows line words old
 unfolding put_in
 put_in-each [] line words [] [] m n each = refl
 put_in-each [] line words [] (v ∷ new) m n each = absurd (omega (arith, n))

@@ -1,25 +1,30 @@
 -- Ten lines without a fault say a header: they keep its rules.
-use Rattle.std.proofs.Common.{◌≡◌, ◌∙◌, ℕ, zero, suc, ne_eqb, ◌+◌, ◌-◌, ◌<◌, ◌≤◌, ◌^◌, ◌==◌, ◌&&◌, Bool, true, false, not, cond, List, [], ◌∷◌, ◌++◌, length, get_or, map, take, drop, Option, Some, None, refl, sym, ap, subst, arith, unwrap_or, ℤ}
+use Rattle.std.proofs.Common.{◌≡◌, ◌∙◌, ℕ, zero, suc, ne_eqb, ◌+◌, ◌-◌, ◌<◌, ◌≤◌, ◌^◌, ◌==◌, ◌&&◌, Bool, true, false}
+use Rattle.std.proofs.Common.{not, cond, List, [], ◌∷◌, ◌++◌, length, get_or, map, take, drop, Option, Some, None, refl}
+use Rattle.std.proofs.Common.{sym, ap, subst, arith, unwrap_or, ℤ}
 use Rattle.std.specs.Prelude.{nat_lt, nat_le, is_none, max}
 use Rattle.std.specs.List.{list_all}
 use Rattle.std.specs.Option.{option_or}
 use Rattle.std.proofs.lemmas.List.{get_or-take, get_or_append_left, take-append-le, take_more, length-append, length-take}
 use Rattle.std.proofs.lemmas.Bool.{eqb-true, lt-ltb, ltb-true, ltb-false, le-ltb, le-leb, leb-true, not-false}
 use Rattle.std.proofs.lemmas.Option.{none-some}
-use Rattle.texts.specs.Judged.{first_reason}
-use Rattle.texts.specs.Words.{word_at}
-use Rattle.texts.proofs.FirstReasons.{none_head}
+use Rattle.text_base.specs.Judged.{first_reason}
+use Rattle.text_base.specs.Words.{word_at}
+use Rattle.text_base.proofs.FirstReasons.{none_head}
 use Rattle.code_tables.specs.declared.field.Field.{Field}
 use Rattle.code_tables.specs.declared.field.FieldRow.{FieldRow}
 use Rattle.code_tables.specs.Header.{header_rows, field_at}
 use Rattle.nl_model.specs.declared.header_counts.Counts.{Counts}
 use Rattle.nl_model.specs.HeaderRules.{are_options, are_numbers, has_no_refused, are_sizes_within, are_shared_within, are_whole_within, are_definitions_within, is_header}
-use Rattle.shared_parts.specs.Options.{has_second_three}
+use Rattle.nl_model.specs.Options.{has_second_three}
 use Rattle.nl_header.specs.declared.fault.HeadFault.{HeadFault}
 use Rattle.nl_header.specs.declared.fault.HeadFault.TheVariants.{BadHeaderNumber, BinaryFile, BadFirstLine, Options, RefusedCount, TooLarge, CountsDisagree}
 use Rattle.exact_numbers.specs.Numbers.{whole_of, are_digits}
 use Rattle.std.specs.Str.Parse.{digits_value}
-use Rattle.nl_header.specs.Head.{number_in, header_number, header_line, words_fault, word_tests, field_tests, limit_of, limit_of_row, begins_with, lacks_number, rule_tests, number_line_fault, header_line_fault, first_line_tests, options_in, options_of, counts_in, counts_by, has_options, option_count}
+use Rattle.nl_header.specs.Head.{number_in, header_number, header_line, words_fault, word_tests, field_tests, limit_of}
+use Rattle.nl_header.specs.Head.{limit_of_row, begins_with, lacks_number, rule_tests, number_line_fault}
+use Rattle.nl_header.specs.Head.{header_line_fault, first_line_tests, options_in, options_of, counts_in, counts_by}
+use Rattle.nl_header.specs.Head.{has_options, option_count}
 use Rattle.nl_header.specs.Reading.{AreClean, last_rule}
 use Rattle.exact_numbers.proofs.NumberLemmas.{both, first_of_both, second_of_both}
 
@@ -96,7 +101,9 @@ line-of lines n some lt clean =
     let size : length (take n lines) ≡ n = omega (arith, length-take n lines, within) in
     let same : n + 1 - 1 ≡ n = omega arith in
     let now : header_line_fault (take n lines) (get_or lines n []) ≡ number_line_fault (length (take n lines) + 1) (counts_in (take n lines ++ get_or lines n [] ∷ [])) (get_or lines n []) =
-    ap (λ t. cond t (first_reason (first_line_tests (get_or lines n []))) (number_line_fault (length (take n lines) + 1) (counts_in (take n lines ++ get_or lines n [] ∷ [])) (get_or lines n []))) (ne_eqb (length (take n lines)) 0 (omega (arith, size, some))) in
+    ap (λ t. cond t (first_reason (first_line_tests (get_or lines n [])))
+    (number_line_fault (length (take n lines) + 1) (counts_in (take n lines ++ get_or lines n [] ∷ []))
+    (get_or lines n []))) (ne_eqb (length (take n lines)) 0 (omega (arith, size, some))) in
     ap (λ i. number_line_fault (n + 1) (counts_in (take (n + 1) lines)) (get_or lines i [])) same
     ∙ ap (λ l. number_line_fault (n + 1) (counts_in l) (get_or lines n [])) (take_more lines n [] within)
     ∙ ap (λ k. number_line_fault (k + 1) (counts_in (take n lines ++ get_or lines n [] ∷ [])) (get_or lines n [])) (sym size)
@@ -120,7 +127,10 @@ is-zero : (row : ℕ) (required : Bool) (n : ℕ) → first_reason (field_tests 
 unfolding field_tests
 is-zero row required n clean = not-false (n == 0) (none_head (not (n == 0)) RefusedCount ((nat_lt (limit_of_row row) n, TooLarge) ∷ []) clean).0
 
-is-within : (row limit : ℕ) (required : Bool) (n : ℕ) → limit_of (Some (record { row = row; required = required; zero = false })) ≡ limit → first_reason (field_tests (Some (record { row = row; required = required; zero = false })) n) ≡ None → nat_le n limit ≡ true
+is-within : (row limit : ℕ) (required : Bool) (n : ℕ) → limit_of
+    (Some (record { row = row; required = required; zero = false })) ≡ limit
+    → first_reason (field_tests (Some (record { row = row; required = required; zero = false })) n) ≡ None
+    → nat_le n limit ≡ true
 unfolding field_tests
 is-within row limit required n same clean =
     let few : nat_lt (limit_of_row row) n ≡ false = (none_head (nat_lt (limit_of_row row) n) TooLarge [] clean).0 in
@@ -154,7 +164,9 @@ small-word : (word : List ℕ) → unwrap_or (whole_of word) 0 < 2 ^ 31
 unfolding whole_of
 small-word word = by (are_digits word && nat_lt (digits_value 10 word) (2 ^ 31)) refl
   where
-    by : (t : Bool) → (are_digits word && nat_lt (digits_value 10 word) (2 ^ 31)) ≡ t → unwrap_or (cond (are_digits word && nat_lt (digits_value 10 word) (2 ^ 31)) (Some (digits_value 10 word)) None) 0 < 2 ^ 31
+    by : (t : Bool) → (are_digits word && nat_lt (digits_value 10 word) (2 ^ 31)) ≡ t
+        → unwrap_or (cond (are_digits word && nat_lt (digits_value 10 word) (2 ^ 31)) (Some (digits_value 10 word)) None)
+        0 < 2 ^ 31
     by true e = subst (λ (t : Bool). unwrap_or (cond t (Some (digits_value 10 word)) None) 0 < 2 ^ 31) (sym e) (ltb-true (digits_value 10 word) (2 ^ 31) (second_of_both _ _ e))
     by false e = subst (λ (t : Bool). unwrap_or (cond t (Some (digits_value 10 word)) None) 0 < 2 ^ 31) (sym e) (omega arith)
 
@@ -221,7 +233,9 @@ first-options ws clean =
     let has = has_options ws (unwrap_or (option_count ws) 0) in
     let last : List (Bool × HeadFault) = (not has, Options) ∷ [] in
     options-from (options_of ws) (unwrap_or (option_count ws) 0) _
-    (not-false has (none_head (not has) Options [] (none_head (is_none (option_count ws)) BadFirstLine last (none_head (begins_with 98 (word_at ws 0)) BinaryFile ((is_none (option_count ws), BadFirstLine) ∷ last) clean).1).1).0)
+    (not-false has (none_head (not has) Options [] (none_head (is_none (option_count ws)) BadFirstLine last
+    (none_head (begins_with 98 (word_at ws 0)) BinaryFile ((is_none (option_count ws), BadFirstLine) ∷ last)
+    clean).1).1).0)
 
 first-fault : (lines : Lines) → header_line_fault (take 0 lines) (get_or lines 0 []) ≡ first_reason (first_line_tests (get_or lines 0 []))
 unfolding header_line_fault
@@ -239,7 +253,8 @@ header-by o a b c d e f ho ha hb hc hd he =
 pub header-rule : (lines : List (List (List ℕ))) → AreNineClean lines → is_header (options_in lines) (counts_in lines) ≡ are_definitions_within (counts_in lines)
 unfolding is_header
 header-rule lines clean =
-    header-by _ _ _ _ _ _ (are_definitions_within (counts_in lines)) (options-are lines clean) (numbers-are lines) (no-refused lines clean) (sizes-within lines clean) (shared-within lines clean) (whole-within lines clean)
+    header-by _ _ _ _ _ _ (are_definitions_within (counts_in lines)) (options-are lines clean) (numbers-are lines)
+    (no-refused lines clean) (sizes-within lines clean) (shared-within lines clean) (whole-within lines clean)
 
 pub last_rule-kept : (counts : Counts) → are_definitions_within counts ≡ true → last_rule 10 counts ≡ None
 unfolding last_rule

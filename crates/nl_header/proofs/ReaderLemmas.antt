@@ -1,5 +1,7 @@
 -- Lines taken one after the other.
-use Rattle.std.proofs.Common.{◌≡◌, ◌∙◌, ℕ, ◌+◌, ◌-◌, ◌<◌, ◌≤◌, ◌==◌, ◌&&◌, ◌||◌, Bool, true, false, not, cond, List, [], ◌∷◌, ◌++◌, length, get_or, map, take, drop, Option, Some, None, refl, sym, ap, arith, unwrap_or, Bor, ℤ}
+use Rattle.std.proofs.Common.{◌≡◌, ◌∙◌, ℕ, ◌+◌, ◌-◌, ◌<◌, ◌≤◌, ◌==◌, ◌&&◌, ◌||◌, Bool, true, false, not, cond, List, []}
+use Rattle.std.proofs.Common.{◌∷◌, ◌++◌, length, get_or, map, take, drop, Option, Some, None, refl, sym, ap, arith}
+use Rattle.std.proofs.Common.{unwrap_or, Bor, ℤ}
 use Rattle.std.specs.Prelude.{nat_lt, nat_le, is_none}
 use Rattle.std.specs.List.{list_all}
 use Rattle.std.specs.Option.{option_or}
@@ -8,23 +10,32 @@ use Rattle.std.proofs.Math.Seq.{get_or-append_seam}
 use Rattle.std.proofs.Math.Bool.{and-false}
 use Rattle.std.proofs.lemmas.Option.{none-some}
 use Rattle.std.proofs.lemmas.Bool.{eqb-true, eqb-false, lt-ltb, ltb-true, ltb-false, le-ltb, leb-true, leb-false}
-use Rattle.texts.specs.Words.{texts, word_at, words_of, row_of}
-use Rattle.texts.specs.Judged.{first_reason}
+use Rattle.text_base.specs.Words.{texts, word_at, words_of, row_of}
+use Rattle.text_base.specs.Judged.{first_reason}
 use Rattle.code_tables.specs.declared.field.FieldRow.{FieldRow}
 use Rattle.code_tables.specs.Header.{header_rows}
 use Rattle.nl_model.specs.declared.header_counts.Counts.{Counts}
-use Rattle.shared_parts.specs.Options.{has_second_three}
+use Rattle.nl_model.specs.Options.{has_second_three}
 use Rattle.nl_header.specs.declared.fault.HeadFault.{HeadFault}
 use Rattle.nl_header.specs.declared.fault.HeadFault.TheVariants.{BadHeaderNumber, BinaryFile, BadFirstLine, Options}
 use Rattle.exact_numbers.specs.Numbers.{whole_of}
-use Rattle.nl_header.specs.Head.{number_in, header_number, header_line, number_after, words_fault, lacks_number, rule_tests, number_line_fault, header_line_fault, first_line_tests, options_in, options_of, counts_in, counts_by, has_options, option_count, begins_with}
+use Rattle.nl_header.specs.Head.{number_in, header_number, header_line, number_after, words_fault, lacks_number}
+use Rattle.nl_header.specs.Head.{rule_tests, number_line_fault, header_line_fault, first_line_tests, options_in}
+use Rattle.nl_header.specs.Head.{options_of, counts_in, counts_by, has_options, option_count, begins_with}
 use Rattle.nl_header.specs.Reading.{Taken, IsReading, AreClean, numbers_in, put_in, counts_from, GoesOn}
 use Rattle.exact_numbers.proofs.NumberLemmas.{first_of_both, second_of_both}
 use Rattle.nl_header.proofs.HeadLemmas.{header_places}
 
 -- ---- No line.
 
-pub nothing_read : (options : List ℤ) → options ≡ [] → IsReading (record { lines = 0; options = options; numbers = 0 ∷ 0 ∷ 0 ∷ 0 ∷ 0 ∷ 0 ∷ 0 ∷ 0 ∷ 0 ∷ 0 ∷ 0 ∷ 0 ∷ 0 ∷ 0 ∷ 0 ∷ 0 ∷ 0 ∷ 0 ∷ 0 ∷ 0 ∷ 0 ∷ 0 ∷ 0 ∷ 0 ∷ 0 ∷ 0 ∷ 0 ∷ 0 ∷ 0 ∷ 0 ∷ 0 ∷ 0 ∷ []; fault = None }) []
+pub nothing_read : (options : List ℤ) → options ≡ [] → IsReading
+    (record {
+      lines = 0;
+      options = options;
+      numbers = 0 ∷ 0 ∷ 0 ∷ 0 ∷ 0 ∷ 0 ∷ 0 ∷ 0 ∷ 0 ∷ 0 ∷ 0 ∷ 0 ∷ 0 ∷ 0 ∷ 0 ∷ 0 ∷ 0
+          ∷ 0 ∷ 0 ∷ 0 ∷ 0 ∷ 0 ∷ 0 ∷ 0 ∷ 0 ∷ 0 ∷ 0 ∷ 0 ∷ 0 ∷ 0 ∷ 0 ∷ 0 ∷ [];
+      fault = None;
+    }) []
 unfolding options_in numbers_in header_rows whole_of
 nothing_read options none = record {
   count = refl;
@@ -46,7 +57,8 @@ word_at-row ws i lt = get_or-take 12 ws i [] lt
 number_after-row : (r : FieldRow) (line : ℕ) (ws : List (List ℕ)) (n : ℕ) → r.place < 7 → number_after r line (take 12 ws) n ≡ number_after r line ws n
 number_after-row r line ws n lt = ap (λ w. cond (r.line == line) (unwrap_or (whole_of w) 0) n) (word_at-row ws (r.place - 1) (omega (arith, lt)))
 
-put_in-row-by : (rows : List FieldRow) (line : ℕ) (ws : List (List ℕ)) (numbers : List ℕ) → list_all (λ r. nat_lt r.place 7) rows ≡ true → put_in rows line (take 12 ws) numbers ≡ put_in rows line ws numbers
+put_in-row-by : (rows : List FieldRow) (line : ℕ) (ws : List (List ℕ)) (numbers : List ℕ)
+    → list_all (λ r. nat_lt r.place 7) rows ≡ true → put_in rows line (take 12 ws) numbers ≡ put_in rows line ws numbers
 unfolding put_in
 put_in-row-by [] line ws numbers small = refl
 put_in-row-by (r ∷ rows) line ws [] small = refl
@@ -64,7 +76,8 @@ count-row ws place lt = by (nat_lt (length ws) place) refl
     by true e = lt-ltb (length (take 12 ws)) place (omega (arith, ltb-true _ _ e, length-take 12 ws)) ∙ sym e
     by false e = le-ltb (length (take 12 ws)) place (omega (arith, ltb-false _ _ e, length-take 12 ws, lt)) ∙ sym e
 
-is_short-row-by : (rows : List FieldRow) (line : ℕ) (ws : List (List ℕ)) → list_all (λ r. nat_lt r.place 7) rows ≡ true → lacks_number rows line (length (take 12 ws)) ≡ lacks_number rows line (length ws)
+is_short-row-by : (rows : List FieldRow) (line : ℕ) (ws : List (List ℕ)) → list_all (λ r. nat_lt r.place 7) rows ≡ true
+    → lacks_number rows line (length (take 12 ws)) ≡ lacks_number rows line (length ws)
 unfolding lacks_number
 is_short-row-by [] line ws small = refl
 is_short-row-by (r ∷ rows) line ws small =
@@ -72,7 +85,9 @@ is_short-row-by (r ∷ rows) line ws small =
     ap (λ t. ((r.line == line) && r.field.required && t) || lacks_number rows line (length (take 12 ws))) (count-row ws r.place (ltb-true _ _ (first_of_both _ _ small)))
     ∙ ap (λ t. ((r.line == line) && r.field.required && nat_lt (length ws) r.place) || t) more
 
-pub short_at : (t u : Bool) (rows : List FieldRow) (line : ℕ) (text : List ℕ) (words : List (Bor (List ℕ))) → t ≡ lacks_number rows line (length words) → rows ≡ header_rows → texts words ≡ row_of text → t ≡ u → lacks_number header_rows line (length (words_of text)) ≡ u
+pub short_at : (t u : Bool) (rows : List FieldRow) (line : ℕ) (text : List ℕ) (words : List (Bor (List ℕ)))
+    → t ≡ lacks_number rows line (length words) → rows ≡ header_rows → texts words ≡ row_of text → t ≡ u
+    → lacks_number header_rows line (length (words_of text)) ≡ u
 short_at t u rows line text words short is same e =
     let count : length words ≡ length (take 12 (words_of text)) = sym (length-map words (λ w. w.now)) ∙ ap length same in
     sym (is_short-row-by header_rows line (words_of text) header_places) ∙ ap (lacks_number header_rows line) (sym count) ∙ ap (λ r. lacks_number r line (length words)) (sym is) ∙ sym short ∙ e
@@ -83,13 +98,16 @@ pub line_words : (line : ℕ) (counts : Counts) (ws : List (List ℕ)) (f : Head
 unfolding number_line_fault
 line_words line counts ws f e = ap (λ g. option_or g (first_reason ((lacks_number header_rows line (length ws), BadHeaderNumber) ∷ rule_tests line counts))) e
 
-pub line_short : (line : ℕ) (counts : Counts) (ws : List (List ℕ)) → words_fault line 1 ws ≡ None → lacks_number header_rows line (length ws) ≡ true → number_line_fault line counts ws ≡ Some BadHeaderNumber
+pub line_short : (line : ℕ) (counts : Counts) (ws : List (List ℕ)) → words_fault line 1 ws ≡ None
+    → lacks_number header_rows line (length ws) ≡ true → number_line_fault line counts ws ≡ Some BadHeaderNumber
 unfolding number_line_fault
 line_short line counts ws e short =
     ap (λ g. option_or g (first_reason ((lacks_number header_rows line (length ws), BadHeaderNumber) ∷ rule_tests line counts))) e
     ∙ ap (λ t. cond t (Some BadHeaderNumber) (first_reason (rule_tests line counts))) short
 
-pub line_rules : (line : ℕ) (counts : Counts) (ws : List (List ℕ)) (o : Option HeadFault) → words_fault line 1 ws ≡ None → lacks_number header_rows line (length ws) ≡ false → first_reason (rule_tests line counts) ≡ o → number_line_fault line counts ws ≡ o
+pub line_rules : (line : ℕ) (counts : Counts) (ws : List (List ℕ)) (o : Option HeadFault) → words_fault line 1 ws ≡ None
+    → lacks_number header_rows line (length ws) ≡ false → first_reason (rule_tests line counts) ≡ o
+    → number_line_fault line counts ws ≡ o
 unfolding number_line_fault
 line_rules line counts ws o e short rules =
     ap (λ g. option_or g (first_reason ((lacks_number header_rows line (length ws), BadHeaderNumber) ∷ rule_tests line counts))) e
@@ -112,14 +130,21 @@ line_at-more before ws line some = by (line == length before + 1) refl
             let past : length before < line - 1 = omega (arith, ltb-false _ _ ge, eqb-false line (length before + 1) e, some) in
             get_or_past (before ++ ws ∷ []) (line - 1) [] (omega (arith, length-append before (ws ∷ []), past)) ∙ sym (get_or_past before (line - 1) [] (omega (arith, past)))
 
-number_after-more : (before : List (List (List ℕ))) (ws : List (List ℕ)) (r : FieldRow) → 0 < r.line → number_after r (length before + 1) ws (header_number before r.line r.place) ≡ header_number (before ++ ws ∷ []) r.line r.place
+number_after-more : (before : List (List (List ℕ))) (ws : List (List ℕ)) (r : FieldRow) → 0 < r.line
+    → number_after r (length before + 1) ws (header_number before r.line r.place)
+    ≡ header_number (before ++ ws ∷ []) r.line r.place
 number_after-more before ws r some = by (r.line == length before + 1) refl ∙ sym (ap (λ l. number_in l r.place) (line_at-more before ws r.line some))
   where
-    by : (t : Bool) → (r.line == length before + 1) ≡ t → cond (r.line == length before + 1) (number_in ws r.place) (header_number before r.line r.place) ≡ number_in (cond (r.line == length before + 1) ws (header_line before r.line)) r.place
+    by : (t : Bool) → (r.line == length before + 1) ≡ t → cond (r.line == length before + 1) (number_in ws r.place)
+        (header_number before r.line r.place) ≡ number_in (cond (r.line == length before + 1) ws
+        (header_line before r.line)) r.place
     by true e = ap (λ t. cond t (number_in ws r.place) (header_number before r.line r.place)) e ∙ sym (ap (λ t. number_in (cond t ws (header_line before r.line)) r.place) e)
     by false e = ap (λ t. cond t (number_in ws r.place) (header_number before r.line r.place)) e ∙ sym (ap (λ t. number_in (cond t ws (header_line before r.line)) r.place) e)
 
-put_in-more-by : (rows : List FieldRow) (before : List (List (List ℕ))) (ws : List (List ℕ)) → list_all (λ r. nat_lt 0 r.line) rows ≡ true → put_in rows (length before + 1) ws (map (λ r. header_number before r.line r.place) rows) ≡ map (λ r. header_number (before ++ ws ∷ []) r.line r.place) rows
+put_in-more-by : (rows : List FieldRow) (before : List (List (List ℕ))) (ws : List (List ℕ))
+    → list_all (λ r. nat_lt 0 r.line) rows ≡ true → put_in rows (length before + 1) ws
+    (map (λ r. header_number before r.line r.place) rows) ≡ map (λ r. header_number (before ++ ws ∷ []) r.line r.place)
+    rows
 unfolding put_in
 put_in-more-by [] before ws some = refl
 put_in-more-by (r ∷ rows) before ws some =
@@ -164,7 +189,9 @@ first_reason-row ws = by (nat_le (length ws) 12) refl
     by true e = ap (λ w. first_reason (first_line_tests w)) (take_all 12 ws (leb-true _ _ e))
     by false e =
         let many : 13 ≤ length ws = omega (arith, leb-false _ _ e) in
-        ap (λ w. first_reason ((begins_with 98 w, BinaryFile) ∷ (is_none (option_count (take 12 ws)), BadFirstLine) ∷ (not (has_options (take 12 ws) (unwrap_or (option_count (take 12 ws)) 0)), Options) ∷ [])) (word_at-row ws 0 (omega arith))
+        ap (λ w. first_reason ((begins_with 98 w, BinaryFile) ∷ (is_none (option_count (take 12 ws)), BadFirstLine)
+        ∷ (not (has_options (take 12 ws) (unwrap_or (option_count (take 12 ws)) 0)), Options) ∷ []))
+        (word_at-row ws 0 (omega arith))
         ∙ ap (λ o. first_reason ((begins_with 98 (word_at ws 0), BinaryFile) ∷ (is_none o, BadFirstLine) ∷ (not (has_options (take 12 ws) (unwrap_or o 0)), Options) ∷ [])) (option_count-row ws)
         ∙ ap (λ t. first_reason ((begins_with 98 (word_at ws 0), BinaryFile) ∷ (is_none (option_count ws), BadFirstLine) ∷ (not t, Options) ∷ []))
         (no_options (take 12 ws) (unwrap_or (option_count ws) 0) (omega (arith, length-take 12 ws, many)) ∙ sym (no_options ws (unwrap_or (option_count ws) 0) (omega (arith, many))))
@@ -178,7 +205,8 @@ first_row-whole ws clean = by (nat_le (length ws) 12) refl
     by false e =
         let many : 6 ≤ length ws = omega (arith, leb-false _ _ e) in
         absurd (never (begins_with 98 (word_at ws 0)) (is_none (option_count ws)) BinaryFile BadFirstLine Options
-        (ap (λ t. first_reason ((begins_with 98 (word_at ws 0), BinaryFile) ∷ (is_none (option_count ws), BadFirstLine) ∷ (not t, Options) ∷ [])) (sym (no_options ws (unwrap_or (option_count ws) 0) many)) ∙ clean))
+        (ap (λ t. first_reason ((begins_with 98 (word_at ws 0), BinaryFile) ∷ (is_none (option_count ws), BadFirstLine)
+        ∷ (not t, Options) ∷ [])) (sym (no_options ws (unwrap_or (option_count ws) 0) many)) ∙ clean))
 
 -- ---- All lines so far.
 
@@ -206,11 +234,16 @@ first_fault : (ws : List (List ℕ)) → header_line_fault [] ws ≡ first_reaso
 unfolding header_line_fault
 first_fault ws = refl
 
-pub first-err : (s : Taken) (before : List (List (List ℕ))) (ws row : List (List ℕ)) (f : HeadFault) → row ≡ take 12 ws → s.lines ≡ 0 → IsReading s before → first_reason (first_line_tests row) ≡ Some f → header_line_fault before ws ≡ Some f
+pub first-err : (s : Taken) (before : List (List (List ℕ))) (ws row : List (List ℕ)) (f : HeadFault) → row ≡ take 12 ws
+    → s.lines ≡ 0 → IsReading s before → first_reason (first_line_tests row) ≡ Some f
+    → header_line_fault before ws ≡ Some f
 first-err s before ws row f is none reading fault =
     ap (λ b. header_line_fault b ws) (no_lines before (sym reading.count ∙ none)) ∙ first_fault ws ∙ sym (first_reason-row ws) ∙ ap (λ w. first_reason (first_line_tests w)) (sym is) ∙ fault
 
-pub first-ok : (s new : Taken) (before : List (List (List ℕ))) (ws row : List (List ℕ)) → row ≡ take 12 ws → s.lines ≡ 0 → IsReading s before → first_reason (first_line_tests row) ≡ None → new ≡ record s { lines = 1; options = options_of row; numbers = put_in header_rows 1 row s.numbers } → GoesOn before ws new
+pub first-ok : (s new : Taken) (before : List (List (List ℕ))) (ws row : List (List ℕ)) → row ≡ take 12 ws → s.lines ≡ 0
+    → IsReading s before → first_reason (first_line_tests row) ≡ None
+    → new ≡ record s { lines = 1; options = options_of row; numbers = put_in header_rows 1 row s.numbers }
+    → GoesOn before ws new
 unfolding options_in
 first-ok s new before ws row is none reading fine step =
     let nil : before ≡ [] = no_lines before (sym reading.count ∙ none) in
@@ -222,7 +255,9 @@ first-ok s new before ws row is none reading fine step =
       reading = record {
         count = ap (λ n. n.lines) step ∙ sym (ap (λ b. length (b ++ ws ∷ [])) nil);
         options = ap (λ n. n.options) step ∙ ap options_of whole ∙ sym (ap (λ b. options_in (b ++ ws ∷ [])) nil);
-        numbers = ap (λ n. n.numbers) step ∙ ap (λ w. put_in header_rows 1 w s.numbers) whole ∙ ap (put_in header_rows 1 ws) (reading.numbers ∙ ap numbers_in nil) ∙ put_in-more [] ws ∙ sym (ap (λ b. numbers_in (b ++ ws ∷ [])) nil);
+        numbers = ap (λ n. n.numbers) step ∙ ap (λ w. put_in header_rows 1 w s.numbers) whole
+            ∙ ap (put_in header_rows 1 ws) (reading.numbers ∙ ap numbers_in nil) ∙ put_in-more [] ws
+            ∙ sym (ap (λ b. numbers_in (b ++ ws ∷ [])) nil);
         going = ap (λ n. n.fault) step ∙ reading.going;
         clean = clean-more before ws reading.clean this;
       };

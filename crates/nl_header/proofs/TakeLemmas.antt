@@ -6,28 +6,32 @@ use Rattle.code_tables.specs.Header.{header_rows}
 use Rattle.nl_model.specs.declared.header_counts.Counts.{Counts}
 use Rattle.nl_model.specs.declared.header.Header.{Header}
 use Rattle.nl_model.specs.HeaderRules.{is_header, are_definitions_within}
-use Rattle.texts.specs.Judged.{first_reason}
+use Rattle.text_base.specs.Judged.{first_reason}
 use Rattle.nl_header.specs.declared.fault.HeadFault.{HeadFault}
 use Rattle.nl_header.specs.Head.{number_line_fault, header_line_fault, first_line_tests, options_in, options_of, counts_in}
 use Rattle.nl_header.specs.Reading.{Taken, IsReading, AreClean, numbers_in, put_in, counts_from, last_rule, Takes, Closes}
 use Rattle.nl_header.proofs.ReaderLemmas.{put_in-row, put_in-more, counts_from-in, clean-more}
 use Rattle.nl_header.proofs.HeaderLaw.{nine_clean, header-rule, last_rule-kept, last_rule-broken, last_rule-before}
 
-numbers-more : (s : Taken) (before : List (List (List ℕ))) (ws row : List (List ℕ)) → row ≡ take 12 ws → IsReading s before → put_in header_rows (s.lines + 1) row s.numbers ≡ numbers_in (before ++ ws ∷ [])
+numbers-more : (s : Taken) (before : List (List (List ℕ))) (ws row : List (List ℕ)) → row ≡ take 12 ws
+    → IsReading s before → put_in header_rows (s.lines + 1) row s.numbers ≡ numbers_in (before ++ ws ∷ [])
 numbers-more s before ws row is reading =
     put_in-row (s.lines + 1) ws row s.numbers is
     ∙ ap (λ n. put_in header_rows (n + 1) ws s.numbers) reading.count
     ∙ ap (put_in header_rows (length before + 1) ws) reading.numbers
     ∙ put_in-more before ws
 
-fault-later : (s : Taken) (before : List (List (List ℕ))) (ws : List (List ℕ)) → (s.lines ≡ 0 → ⊥) → IsReading s before → header_line_fault before ws ≡ number_line_fault (s.lines + 1) (counts_in (before ++ ws ∷ [])) ws
+fault-later : (s : Taken) (before : List (List (List ℕ))) (ws : List (List ℕ)) → (s.lines ≡ 0 → ⊥) → IsReading s before
+    → header_line_fault before ws ≡ number_line_fault (s.lines + 1) (counts_in (before ++ ws ∷ [])) ws
 unfolding header_line_fault
 fault-later s before ws some reading =
     ap (λ t. cond t (first_reason (first_line_tests ws)) (number_line_fault (length before + 1) (counts_in (before ++ ws ∷ [])) ws))
     (ne_eqb (length before) 0 (λ e. some (reading.count ∙ e)))
     ∙ ap (λ n. number_line_fault (n + 1) (counts_in (before ++ ws ∷ [])) ws) (sym reading.count)
 
-pub number-err : (s : Taken) (before : List (List (List ℕ))) (ws row : List (List ℕ)) (f : HeadFault) → row ≡ take 12 ws → (s.lines ≡ 0 → ⊥) → IsReading s before → number_line_fault (s.lines + 1) (counts_from (put_in header_rows (s.lines + 1) row s.numbers)) ws ≡ Some f → header_line_fault before ws ≡ Some f
+pub number-err : (s : Taken) (before : List (List (List ℕ))) (ws row : List (List ℕ)) (f : HeadFault) → row ≡ take 12 ws
+    → (s.lines ≡ 0 → ⊥) → IsReading s before → number_line_fault (s.lines + 1)
+    (counts_from (put_in header_rows (s.lines + 1) row s.numbers)) ws ≡ Some f → header_line_fault before ws ≡ Some f
 number-err s before ws row f is some reading fault =
     fault-later s before ws some reading
     ∙ ap (λ c. number_line_fault (s.lines + 1) c ws) (sym (counts_from-in (before ++ ws ∷ [])) ∙ ap counts_from (sym (numbers-more s before ws row is reading)))
@@ -48,7 +52,10 @@ record IsTaken (before : List (List (List ℕ))) (ws : List (List ℕ)) (s mid :
   fault : header_line_fault before ws ≡ last_rule (length before + 1) counts
   clean : AreClean before
 
-taken : (s mid : Taken) (before : List (List (List ℕ))) (ws row : List (List ℕ)) (counts : Counts) → row ≡ take 12 ws → (s.lines ≡ 0 → ⊥) → IsReading s before → mid ≡ record s { numbers = put_in header_rows (s.lines + 1) row s.numbers } → counts ≡ counts_from mid.numbers → number_line_fault (s.lines + 1) counts ws ≡ last_rule (s.lines + 1) counts → IsTaken before ws s mid counts
+taken : (s mid : Taken) (before : List (List (List ℕ))) (ws row : List (List ℕ)) (counts : Counts) → row ≡ take 12 ws
+    → (s.lines ≡ 0 → ⊥) → IsReading s before → mid ≡ record s { numbers = put_in header_rows (s.lines + 1) row s.numbers }
+    → counts ≡ counts_from mid.numbers → number_line_fault (s.lines + 1) counts ws ≡ last_rule (s.lines + 1) counts
+    → IsTaken before ws s mid counts
 taken s mid before ws row counts is some reading step are fault =
     let begun : 0 < length before = positive (length before) (λ e. some (reading.count ∙ e)) in
     let numbers_are : mid.numbers ≡ numbers_in (before ++ ws ∷ []) = ap (λ m. m.numbers) step ∙ numbers-more s before ws row is reading in
@@ -70,7 +77,9 @@ taken s mid before ws row counts is some reading step are fault =
 rules-true : (b : Bool) → IsTrue b → b ≡ true
 rules-true b t = t
 
-closes : (before : List (List (List ℕ))) (ws : List (List ℕ)) (s mid new : Taken) (counts : Counts) (result : Result (Option Header) HeadFault) → IsTaken before ws s mid counts → Closes mid counts result new → Takes before ws result new
+closes : (before : List (List (List ℕ))) (ws : List (List ℕ)) (s mid new : Taken) (counts : Counts)
+    (result : Result (Option Header) HeadFault) → IsTaken before ws s mid counts → Closes mid counts result new
+    → Takes before ws result new
 closes before ws s mid new counts (Ok None) is closed =
     let line : length before + 1 < 10 = omega (arith, is.lines, closed.0) in
     let this : header_line_fault before ws ≡ None = is.fault ∙ last_rule-before (length before + 1) counts line in
@@ -90,7 +99,9 @@ closes before ws s mid new counts (Ok (Some header)) is closed =
     let counts_are : header.counts ≡ counts_in (before ++ ws ∷ []) = closed.2 ∙ is.counts_are in
     let ruled : is_header header.options header.counts ≡ true = rules-true _ header.ruled in
     let within : are_definitions_within (counts_in (before ++ ws ∷ [])) ≡ true =
-    sym (header-rule (before ++ ws ∷ []) (nine_clean before ws nine is.clean)) ∙ ap (λ o. is_header o (counts_in (before ++ ws ∷ []))) (sym options_are) ∙ ap (is_header header.options) (sym counts_are) ∙ ruled in
+    sym (header-rule (before ++ ws ∷ []) (nine_clean before ws nine is.clean))
+    ∙ ap (λ o. is_header o (counts_in (before ++ ws ∷ []))) (sym options_are)
+    ∙ ap (is_header header.options) (sym counts_are) ∙ ruled in
     record {
       clean = is.fault ∙ ap (λ n. last_rule (n + 1) counts) nine ∙ ap (last_rule 10) is.counts_are ∙ last_rule-kept _ within;
       says = record {
@@ -103,8 +114,15 @@ closes before ws s mid new counts (Ok (Some header)) is closed =
 closes before ws s mid new counts (Err fault) is closed =
     let nine : length before ≡ 9 = sym is.lines ∙ closed.0 in
     let broken : are_definitions_within (counts_in (before ++ ws ∷ [])) ≡ false =
-    sym (header-rule (before ++ ws ∷ []) (nine_clean before ws nine is.clean)) ∙ ap (λ o. is_header o (counts_in (before ++ ws ∷ []))) (sym is.options) ∙ ap (is_header mid.options) (sym is.counts_are) ∙ closed.2 in
+    sym (header-rule (before ++ ws ∷ []) (nine_clean before ws nine is.clean))
+    ∙ ap (λ o. is_header o (counts_in (before ++ ws ∷ []))) (sym is.options)
+    ∙ ap (is_header mid.options) (sym is.counts_are) ∙ closed.2 in
     is.fault ∙ ap (λ n. last_rule (n + 1) counts) nine ∙ ap (last_rule 10) is.counts_are ∙ last_rule-broken _ broken ∙ ap Some (sym closed.1)
 
-pub number-ok : (s mid new : Taken) (before : List (List (List ℕ))) (ws row : List (List ℕ)) (counts : Counts) (result : Result (Option Header) HeadFault) → row ≡ take 12 ws → (s.lines ≡ 0 → ⊥) → IsReading s before → mid ≡ record s { numbers = put_in header_rows (s.lines + 1) row s.numbers } → counts ≡ counts_from mid.numbers → number_line_fault (s.lines + 1) counts ws ≡ last_rule (s.lines + 1) counts → Closes mid counts result new → Takes before ws result new
-number-ok s mid new before ws row counts result is some reading step are fault closed = closes before ws s mid new counts result (taken s mid before ws row counts is some reading step are fault) closed
+pub number-ok : (s mid new : Taken) (before : List (List (List ℕ))) (ws row : List (List ℕ)) (counts : Counts)
+    (result : Result (Option Header) HeadFault) → row ≡ take 12 ws → (s.lines ≡ 0 → ⊥) → IsReading s before
+    → mid ≡ record s { numbers = put_in header_rows (s.lines + 1) row s.numbers } → counts ≡ counts_from mid.numbers
+    → number_line_fault (s.lines + 1) counts ws ≡ last_rule (s.lines + 1) counts → Closes mid counts result new
+    → Takes before ws result new
+number-ok s mid new before ws row counts result is some reading step are fault closed =
+    closes before ws s mid new counts result (taken s mid before ws row counts is some reading step are fault) closed

@@ -1,7 +1,7 @@
 // The first header line: the letter of text files, and the options.
 ghost use Rattle.std.specs.Prelude.{◌≡◌, ℕ, ◌<◌, ◌≤◌, ◌++◌, option_to_list, length, filter_map, slice_index};
-ghost use Rattle.texts.specs.Judged.{Decides};
-ghost use Rattle.texts.specs.Words.{texts};
+ghost use Rattle.text_base.specs.Judged.{Decides};
+ghost use Rattle.text_base.specs.Words.{texts};
 ghost use Rattle.exact_numbers.specs.Numbers.{signed_of};
 ghost use Rattle.nl_header.specs.Head.{begins_with, option_count, options_of, first_line_tests};
 

@@ -1,14 +1,14 @@
 // The header lines of numbers, judged and kept by the table of fields.
 ghost use Rattle.std.specs.Prelude.{◌≡◌, ℕ, ◌<◌, ◌≤◌, ◌==◌, ◌+◌, min, length, slice_index, slice_index_or, if◌then◌else◌, None};
-ghost use Rattle.texts.specs.Judged.{first_reason};
-ghost use Rattle.texts.specs.Words.{words_of, texts};
+ghost use Rattle.text_base.specs.Judged.{first_reason};
+ghost use Rattle.text_base.specs.Words.{words_of, texts};
 ghost use Rattle.nl_header.specs.Head.{Judges, number_in, limit_of_row, field_tests, word_tests, words_fault, lacks_number, no_field_row, number_after};
 ghost use Rattle.nl_header.specs.Reading.{put_in};
 
 use crate::fault::HeadFault;
 use code_tables::{Field, FieldRow, Table, field_at};
 use exact_numbers::whole_of;
-use texts::words;
+use text_base::words;
 
 /// From this place on no line has a field.
 pub const PAST_FIELDS: u32 = 7;

@@ -1,7 +1,7 @@
 // The reader of header lines.
 ghost use Rattle.std.specs.Prelude.{◌≡◌, ℕ, ◌<◌, ◌≤◌, ◌+◌, [], List, length, OnOk, OnErr, IfOk, IfErr, IfSome, None, Some, MatchBool, MatchResult};
-ghost use Rattle.texts.specs.Judged.{first_reason};
-ghost use Rattle.texts.specs.Words.{words_of, row_of};
+ghost use Rattle.text_base.specs.Judged.{first_reason};
+ghost use Rattle.text_base.specs.Words.{words_of, row_of};
 ghost use Rattle.code_tables.specs.Header.{header_rows};
 ghost use Rattle.nl_header.specs.Head.{Judges, first_line_tests, number_line_fault, options_of};
 ghost use Rattle.nl_header.specs.Reading.{IsReading, Takes, HasCounted, Closes, put_in, counts_from, last_rule};
@@ -14,7 +14,7 @@ use code_tables::header_table;
 use nl_model::{Counts, Header, Options};
 use std::marker::Model;
 use std::mem;
-use texts::Row;
+use text_base::Row;
 
 /// A header has so many lines.
 const HEADER_LINES: u32 = 10;

@@ -1,7 +1,7 @@
 // The counts of the lines, and the rules between them.
 ghost use Rattle.std.specs.Prelude.{◌≡◌, length, ◌≤◌};
-ghost use Rattle.texts.specs.Judged.{first_reason};
-ghost use Rattle.texts.specs.Words.{words_of, row_of};
+ghost use Rattle.text_base.specs.Judged.{first_reason};
+ghost use Rattle.text_base.specs.Words.{words_of, row_of};
 ghost use Rattle.code_tables.specs.Header.{header_rows};
 ghost use Rattle.nl_header.specs.Head.{Judges, number_line_fault, rule_tests};
 ghost use Rattle.nl_header.specs.Reading.{counts_from, last_rule};
@@ -10,7 +10,7 @@ use crate::fault::HeadFault;
 use crate::number_line::{is_short, judge_words};
 use code_tables::header_table;
 use nl_model::{Counts, are_shared_within, are_whole_within};
-use texts::Row;
+use text_base::Row;
 
 /// The counts of the numbers of the rows.
 #[tactic(auto, unfolding(crate::specs::Reading::counts_from))]

@@ -88,7 +88,8 @@ with_bound o c before p row i e is =
     changed o c before p row Bounds (λ x. record x { bounds = x.bounds ++ i ∷ [] }) e (λ k. record d { bounds = q k })
 
 -- a line of k says nothing
-pub with_column : (o : List ℤ) (c : Counts) (before : List Piece) (p : Piece) (row : NumberedRow) (n : ℕ) → p.head ≡ ColumnCounts n → draft_of o c (before ++ longer p row ∷ []) ≡ draft_of o c (before ++ p ∷ [])
+pub with_column : (o : List ℤ) (c : Counts) (before : List Piece) (p : Piece) (row : NumberedRow) (n : ℕ)
+    → p.head ≡ ColumnCounts n → draft_of o c (before ++ longer p row ∷ []) ≡ draft_of o c (before ++ p ∷ [])
 with_column o c before p row n e = changed o c before p row (ColumnCounts n) (λ x. x) e refl
 
 -- ---- terms
@@ -110,7 +111,8 @@ more_terms rows i ys zs t lt e =
     ∙ sym (set_again rows i (get_or rows i [] ++ ys) ((get_or rows i [] ++ ys) ++ t ∷ []))
     ∙ ap (λ xs. slice_set (slice_set rows i (get_or rows i [] ++ ys)) i (xs ++ t ∷ [])) (sym (get_set rows i (get_or rows i [] ++ ys) [] lt))
 
-pub with_term : (o : List ℤ) (c : Counts) (before : List Piece) (p : Piece) (row : NumberedRow) (i n : ℕ) (t : Term) → p.head ≡ Terms i n → length p.rows < n → i < length (draft_of o c before).terms → pair_in (row_words row) ≡ Some t
+pub with_term : (o : List ℤ) (c : Counts) (before : List Piece) (p : Piece) (row : NumberedRow) (i n : ℕ) (t : Term)
+    → p.head ≡ Terms i n → length p.rows < n → i < length (draft_of o c before).terms → pair_in (row_words row) ≡ Some t
     → draft_of o c (before ++ longer p row ∷ [])
     ≡ record (draft_of o c (before ++ p ∷ [])) { terms = slice_set (draft_of o c (before ++ p ∷ [])).terms i (get_or (draft_of o c (before ++ p ∷ [])).terms i [] ++ t ∷ []) }
 with_term o c before p row i n t e early within is =
@@ -118,7 +120,8 @@ with_term o c before p row i n t e early within is =
     let q = more_terms d.terms i (piece_pairs p) (piece_pairs (longer p row)) t within (early_pairs p row t (rw e early) is) in
     changed o c before p row (Terms i n) (λ x. record x { terms = slice_set x.terms i (get_or x.terms i [] ++ t ∷ []) }) e (λ k. record d { terms = q k })
 
-pub with_slope : (o : List ℤ) (c : Counts) (before : List Piece) (p : Piece) (row : NumberedRow) (i n : ℕ) (t : Term) → p.head ≡ Slopes i n → length p.rows < n → i < length (draft_of o c before).slopes → pair_in (row_words row) ≡ Some t
+pub with_slope : (o : List ℤ) (c : Counts) (before : List Piece) (p : Piece) (row : NumberedRow) (i n : ℕ) (t : Term)
+    → p.head ≡ Slopes i n → length p.rows < n → i < length (draft_of o c before).slopes → pair_in (row_words row) ≡ Some t
     → draft_of o c (before ++ longer p row ∷ [])
     ≡ record (draft_of o c (before ++ p ∷ [])) { slopes = slice_set (draft_of o c (before ++ p ∷ [])).slopes i (get_or (draft_of o c (before ++ p ∷ [])).slopes i [] ++ t ∷ []) }
 with_slope o c before p row i n t e early within is =
@@ -168,7 +171,10 @@ with_objective o c before p k m e t =
     ∙ ap (λ x. record d { objectives = slice_set d.objectives k (Some (record { maximise = m; tree = piece_tree x p })) }) (draft_counts o c before)
 
 pub with_definition : (o : List ℤ) (c : Counts) (before : List Piece) (p : Piece) (i j u : ℕ) → p.head ≡ Definition i j u → is_complete c p ≡ true
-    → draft_of o c (before ++ p ∷ []) ≡ record (draft_of o c before) { definitions = (draft_of o c before).definitions ++ record { index = i; terms = piece_pairs p; usage = u; tree = piece_tree c p } ∷ [] }
+    → draft_of o c (before ++ p ∷ []) ≡ record (draft_of o c before) {
+      definitions = (draft_of o c before).definitions ++ record
+          { index = i; terms = piece_pairs p; usage = u; tree = piece_tree c p } ∷ [];
+    }
 with_definition o c before p i j u e t =
     let d = draft_of o c before in
     by_head o c before p (Definition i j u) e ∙ said_whole d _ c p (draft_counts o c before) t

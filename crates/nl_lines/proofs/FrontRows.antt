@@ -1,23 +1,26 @@
 -- A line that a text begins with, word by word.
-use Rattle.std.proofs.Common.{◌≡◌, ◌∙◌, ℕ, suc, ◌+◌, ◌<◌, ◌≤◌, ◌==◌, take, drop, Bool, true, false, List, [], ◌∷◌, ◌++◌, length, refl, sym, ap, ap₂, subst, arith, append_assoc, length-append, length-take, take-append-drop, take_all, get_or, Some, Option}
+use Rattle.std.proofs.Common.{◌≡◌, ◌∙◌, ℕ, suc, ◌+◌, ◌<◌, ◌≤◌, ◌==◌, take, drop, Bool, true, false, List, [], ◌∷◌, ◌++◌}
+use Rattle.std.proofs.Common.{length, refl, sym, ap, ap₂, subst, arith, append_assoc, length-append, length-take}
+use Rattle.std.proofs.Common.{take-append-drop, take_all, get_or, Some, Option}
 use Rattle.std.proofs.Math.Seq.{drop-append_seam}
 use Rattle.std.proofs.lemmas.List.{drop_more}
 use Rattle.exact_numbers.specs.Numbers.{whole_of}
-use Rattle.texts.specs.Cut.{HasNoEnd}
-use Rattle.texts.specs.Words.{IsUnmarked, onto_word, row_of, up_to_comment, words_of, without_comment}
-use Rattle.texts.proofs.CommentLemmas.{no_mark}
-use Rattle.texts.proofs.LineLemmas.{EndsFree, last-free, trimmed-free}
-use Rattle.texts.proofs.PairLemmas.{one_line-pair, without_comment-unmarked, words_of-one, no_blank, no_cr}
-use Rattle.texts.proofs.WalkSteps.{no_end-append}
-use Rattle.texts.proofs.WordLemmas.{begins}
+use Rattle.text_base.specs.Cut.{HasNoEnd}
+use Rattle.text_base.specs.Words.{IsUnmarked, onto_word, row_of, up_to_comment, words_of, without_comment}
+use Rattle.text_base.proofs.CommentLemmas.{no_mark}
+use Rattle.text_base.proofs.LineLemmas.{EndsFree, last-free, trimmed-free}
+use Rattle.text_base.proofs.PairLemmas.{one_line-pair, without_comment-unmarked, words_of-one, no_blank, no_cr}
+use Rattle.text_base.proofs.WalkSteps.{no_end-append}
+use Rattle.text_base.proofs.WordLemmas.{begins}
 use Rattle.nl_lines.specs.FirstRows.{IsFirstRow}
 use Rattle.nl_lines.specs.InsideFrontLines.{IsFrontRow, IsLineOf, IsWordBefore}
 use Rattle.nl_lines.specs.WholeRows.{IsWholeRow}
-use Rattle.texts.proofs.FrontLemmas.{front_one}
+use Rattle.text_base.proofs.FrontLemmas.{front_one}
 
 -- ---- a word before a byte
 
-pub word_before : (byte : ℕ) (text : List ℕ) (n : ℕ) (says : List ℕ → Type 0) → n < length text → get_or text n 0 ≡ byte → 0 < n → n ≤ 40 → IsUnmarked (take n text) → says (take n text) → IsWordBefore 40 byte text (n + 1) says
+pub word_before : (byte : ℕ) (text : List ℕ) (n : ℕ) (says : List ℕ → Type 0) → n < length text → get_or text n 0 ≡ byte
+    → 0 < n → n ≤ 40 → IsUnmarked (take n text) → says (take n text) → IsWordBefore 40 byte text (n + 1) says
 word_before byte text n says within is some few unmarked holds =
     let size : length (take n text) ≡ n = omega (arith, within, length-take n text) in
     record {
@@ -39,7 +42,8 @@ left_is most byte text rest len says w is =
     is ∙ ap₂ (λ (k : ℕ) bs. drop k bs) size whole ∙ drop-append_seam (w.word ++ byte ∷ []) w.more
 
 -- a letter in front of it
-pub lettered : (most byte letter : ℕ) (rest : List ℕ) (len : ℕ) (says whole_says : List ℕ → Type 0) → 35 < letter → IsWordBefore most byte rest len says → ((word : List ℕ) → says word → whole_says (letter ∷ word))
+pub lettered : (most byte letter : ℕ) (rest : List ℕ) (len : ℕ) (says whole_says : List ℕ → Type 0) → 35 < letter
+    → IsWordBefore most byte rest len says → ((word : List ℕ) → says word → whole_says (letter ∷ word))
     → IsWordBefore (most + 1) byte (letter ∷ rest) (len + 1) whole_says
 lettered most byte letter rest len says whole_says above w then = record {
   word = letter ∷ w.word;
@@ -101,7 +105,9 @@ line_of_more words (b ∷ word) line some all h = record {
 
 -- ---- the line
 
-pub alone : (most : ℕ) (text : List ℕ) (len : ℕ) (word_says : List ℕ → Type 0) (says : List (List ℕ) → Type 0) → most ≤ 41 → IsWordBefore most 10 text len word_says → ((word : List ℕ) → word_says word → says (word ∷ [])) → IsFrontRow text len says
+pub alone : (most : ℕ) (text : List ℕ) (len : ℕ) (word_says : List ℕ → Type 0) (says : List (List ℕ) → Type 0)
+    → most ≤ 41 → IsWordBefore most 10 text len word_says → ((word : List ℕ) → word_says word → says (word ∷ []))
+    → IsFrontRow text len says
 alone most text len word_says says bound w then = record {
   words = w.word ∷ [];
   line = w.word;
@@ -113,7 +119,9 @@ alone most text len word_says says bound w then = record {
   holds = then w.word w.holds;
 }
 
-pub in_front : (most : ℕ) (text rest : List ℕ) (n m : ℕ) (word_says : List ℕ → Type 0) (rest_says says : List (List ℕ) → Type 0) → most ≤ 41 → IsWordBefore most 32 text n word_says → rest ≡ drop n text → IsFrontRow rest m rest_says
+pub in_front : (most : ℕ) (text rest : List ℕ) (n m : ℕ) (word_says : List ℕ → Type 0)
+    (rest_says says : List (List ℕ) → Type 0) → most ≤ 41 → IsWordBefore most 32 text n word_says → rest ≡ drop n text
+    → IsFrontRow rest m rest_says
     → ((word : List ℕ) (words : List (List ℕ)) → word_says word → rest_says words → says (word ∷ words)) → IsFrontRow text (n + m) says
 in_front most text rest n m word_says rest_says says bound w is r then = record {
   words = w.word ∷ r.words;
@@ -155,11 +163,14 @@ two_first (a ∷ []) first second some p q = absurd (omega (arith, some))
 two_first (a ∷ b ∷ rest) first second some p q = ap₂ (λ x y. x ∷ y ∷ rest) p q
 
 -- a letter and a number
-pub letter_row : {V : Type 0} (read : List ℕ → Option V) (v : V) (rest : List ℕ) (len letter : ℕ) (says : List (List ℕ) → Type 0) → 35 < letter → ((words : List (List ℕ)) → says words → length words ≤ 12)
+pub letter_row : {V : Type 0} (read : List ℕ → Option V) (v : V) (rest : List ℕ) (len letter : ℕ)
+    (says : List (List ℕ) → Type 0) → 35 < letter → ((words : List (List ℕ)) → says words → length words ≤ 12)
     → IsWordBefore 40 10 rest len (λ word. read word ≡ Some v) → ((word : List ℕ) → read word ≡ Some v → says ((letter ∷ word) ∷ [])) → IsFirstRow (letter ∷ rest) (len + 1) says
 letter_row read v rest len letter says above few w then =
     first_row (letter ∷ rest) (len + 1) says few
-    (alone 41 (letter ∷ rest) (len + 1) (λ word. says (word ∷ [])) says (omega arith) (lettered 40 10 letter rest len (λ word. read word ≡ Some v) (λ word. says (word ∷ [])) above w then) (λ word holds. holds))
+    (alone 41 (letter ∷ rest) (len + 1) (λ word. says (word ∷ [])) says (omega arith)
+    (lettered 40 10 letter rest len (λ word. read word ≡ Some v) (λ word. says (word ∷ [])) above w then)
+    (λ word holds. holds))
 
 -- one word, which is a number
 record IsOneWhole (n : ℕ) (words : List (List ℕ)) : Type 0 where
@@ -168,14 +179,20 @@ record IsOneWhole (n : ℕ) (words : List (List ℕ)) : Type 0 where
   says : whole_of word ≡ Some n
 
 -- a letter and two numbers
-pub letters_row : (rest left : List ℕ) (n m i k letter : ℕ) (says : List (List ℕ) → Type 0) → 35 < letter → ((words : List (List ℕ)) → says words → length words ≤ 12) → IsWordBefore 40 32 rest n (λ word. whole_of word ≡ Some i) → left ≡ drop n rest
-    → IsWordBefore 40 10 left m (λ word. whole_of word ≡ Some k) → ((first second : List ℕ) → whole_of first ≡ Some i → whole_of second ≡ Some k → says ((letter ∷ first) ∷ second ∷ [])) → IsFirstRow (letter ∷ rest) (n + m + 1) says
+pub letters_row : (rest left : List ℕ) (n m i k letter : ℕ) (says : List (List ℕ) → Type 0) → 35 < letter
+    → ((words : List (List ℕ)) → says words → length words ≤ 12)
+    → IsWordBefore 40 32 rest n (λ word. whole_of word ≡ Some i) → left ≡ drop n rest
+    → IsWordBefore 40 10 left m (λ word. whole_of word ≡ Some k)
+    → ((first second : List ℕ) → whole_of first ≡ Some i → whole_of second ≡ Some k
+    → says ((letter ∷ first) ∷ second ∷ [])) → IsFirstRow (letter ∷ rest) (n + m + 1) says
 letters_row rest left n m i k letter says above few w is v then =
     let sum : n + 1 + m ≡ n + m + 1 = omega arith in
     let more : left ≡ drop (n + 1) (letter ∷ rest) = is ∙ ap (λ (j : ℕ). drop j (letter ∷ rest)) (let one : suc n ≡ n + 1 = omega arith in one) in
     subst (λ (j : ℕ). IsFirstRow (letter ∷ rest) j says) sum
     (first_row (letter ∷ rest) (n + 1 + m) says few
     (in_front 41 (letter ∷ rest) left (n + 1) m (λ word. (second : List ℕ) → whole_of second ≡ Some k → says (word ∷ second ∷ [])) (IsOneWhole k) says (omega arith)
-    (lettered 40 32 letter rest n (λ word. whole_of word ≡ Some i) (λ word. (second : List ℕ) → whole_of second ≡ Some k → says (word ∷ second ∷ [])) above w (λ word e second f. then word second e f)) more
+    (lettered 40 32 letter rest n (λ word. whole_of word ≡ Some i)
+    (λ word. (second : List ℕ) → whole_of second ≡ Some k → says (word ∷ second ∷ [])) above w
+    (λ word e second f. then word second e f)) more
     (alone 40 left m (λ word. whole_of word ≡ Some k) (IsOneWhole k) (omega arith) v (λ word e. record { word = word; is = refl; says = e }))
     (λ word words holds one. subst (λ ws. says (word ∷ ws)) (sym one.is) (holds one.word one.says))))

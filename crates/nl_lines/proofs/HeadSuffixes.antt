@@ -8,8 +8,8 @@ use Rattle.std.proofs.lemmas.List.Folds.{list_any-append}
 use Rattle.nl_model.specs.declared.header_counts.Counts.{Counts}
 use Rattle.nl_model.specs.Draft.{Draft, empty_draft}
 use Rattle.nl_model.specs.Rules.{has_suffix, is_suffix_of}
-use Rattle.shared_parts.specs.SuffixKinds.{has_same_objects}
-use Rattle.shared_parts.proofs.ObjectLemmas.{same_objects-comm}
+use Rattle.nl_model.specs.SuffixKinds.{has_same_objects}
+use Rattle.nl_model.proofs.ObjectLemmas.{same_objects-comm}
 use Rattle.nl_lines.specs.declared.head.Head.{Head}
 use Rattle.nl_lines.specs.declared.head.Head.TheVariants.{Body, Objective, Definition, Suffix}
 use Rattle.nl_lines.specs.Pieces.{Piece, is_complete}

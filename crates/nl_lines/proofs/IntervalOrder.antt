@@ -3,7 +3,7 @@ use Rattle.std.proofs.Common.{refl, ◌≡◌, true, false, ℤ, ◌<ℤ◌, ◌
 use Rattle.std.specs.Ordering.{MatchOrdering, is_lt}
 use Rattle.std.specs.Cmp.{int_ranks}
 use Rattle.std.proofs.lemmas.Int.{ints}
-use Rattle.fractions.specs.Rational.{ℚ, ◌≤ℚ◌}
+use Rattle.exact_numbers.specs.Rational.{ℚ, ◌≤ℚ◌}
 use Rattle.exact_numbers.specs.declared.dec.Dec.{Dec}
 use Rattle.exact_numbers.specs.Values.{dec_value}
 use Rattle.linear_program.specs.declared.interval.Interval.{Interval}

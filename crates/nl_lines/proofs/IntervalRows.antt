@@ -9,9 +9,9 @@ use Rattle.std.proofs.lemmas.Bool.Decides.{nat_tests}
 use Rattle.exact_numbers.specs.declared.dec.Dec.{Dec}
 use Rattle.exact_numbers.specs.Numbers.{dec_of}
 use Rattle.linear_program.specs.declared.interval.Interval.{Interval}
-use Rattle.texts.specs.Judged.{first_reason}
-use Rattle.texts.specs.Words.{word_at}
-use Rattle.texts.proofs.NamePlaces.{bytes_same}
+use Rattle.text_base.specs.Judged.{first_reason}
+use Rattle.text_base.specs.Words.{word_at}
+use Rattle.text_base.proofs.NamePlaces.{bytes_same}
 use Rattle.nl_lines.specs.Heads.{is_head}
 use Rattle.nl_lines.specs.InsideFrontLines.{IsFrontRow, IsWordBefore}
 use Rattle.nl_lines.specs.IntervalRows.{IsIntervalRow}
@@ -74,7 +74,8 @@ not_five d h = grind (arith, nat_tests)
 abbrev pub is_refused : Interval → Bool → Bool
 is_refused i unit = is_empty i || (unit && not (is_within_unit i))
 
-pub interval_fine : (words : List (List ℕ)) (i : Interval) (of_constraint unit : Bool) → IsIntervalRow words i → is_refused i unit ≡ false → first_reason (interval_form_tests of_constraint unit words) ≡ None
+pub interval_fine : (words : List (List ℕ)) (i : Interval) (of_constraint unit : Bool) → IsIntervalRow words i
+    → is_refused i unit ≡ false → first_reason (interval_form_tests of_constraint unit words) ≡ None
 unfolding interval_form_tests
 interval_fine words i of_constraint unit w fine =
     let s = sided_row words i w in
@@ -111,7 +112,9 @@ record IsOneOf (d : Dec) (words : List (List ℕ)) : Type 0 where
   says : dec_of word ≡ Some d
 
 -- the kind in front of the numbers
-pub kind_first : (text rest : List ℕ) (kind m : ℕ) (i : Interval) → text ≡ kind ∷ 32 ∷ rest → IsFrontRow rest m (λ words. IsIntervalRow ((kind ∷ []) ∷ words) i) → IsFrontRow text (m + 2) (λ words. IsIntervalRow words i)
+pub kind_first : (text rest : List ℕ) (kind m : ℕ) (i : Interval) → text ≡ kind ∷ 32 ∷ rest
+    → IsFrontRow rest m (λ words. IsIntervalRow ((kind ∷ []) ∷ words) i)
+    → IsFrontRow text (m + 2) (λ words. IsIntervalRow words i)
 kind_first text rest kind m i parts r =
     let s = sided_row ((kind ∷ []) ∷ r.words) i r.holds in
     let same : kind ≡ s.digit = ap (λ (w : List ℕ). slice_index w 0) s.is in
@@ -122,7 +125,8 @@ kind_first text rest kind m i parts r =
     (in_front 40 text rest 2 m (λ word. word ≡ kind ∷ []) (λ words. IsIntervalRow ((kind ∷ []) ∷ words) i) (λ words. IsIntervalRow words i) (omega arith) w (ap (drop 2) (sym parts)) r
     (λ word words is holds. subst (λ x. IsIntervalRow (x ∷ words) i) (sym is) holds))
 
-pub kind_line : (text rest : List ℕ) (kind m : ℕ) (i : Interval) → 2 ≤ length text → get_or text 0 0 ≡ kind → get_or text 1 0 ≡ 32 → rest ≡ drop 2 text → IsFrontRow rest m (λ words. IsIntervalRow ((kind ∷ []) ∷ words) i)
+pub kind_line : (text rest : List ℕ) (kind m : ℕ) (i : Interval) → 2 ≤ length text → get_or text 0 0 ≡ kind
+    → get_or text 1 0 ≡ 32 → rest ≡ drop 2 text → IsFrontRow rest m (λ words. IsIntervalRow ((kind ∷ []) ∷ words) i)
     → IsFirstRow text (m + 2) (λ words. IsIntervalRow words i)
 kind_line text rest kind m i some first space is r =
     first_row text (m + 2) (λ words. IsIntervalRow words i) (λ words row. interval_few words i row)
@@ -138,7 +142,8 @@ free_line text some first ends =
     (alone 40 text 2 (λ word. word ≡ 51 ∷ []) (λ words. IsIntervalRow words i) (omega arith) w (λ word is. subst (λ x. IsIntervalRow (x ∷ []) i) (sym is) free_row))
 
 -- two numbers behind the kind
-pub sides_row : (rest left : List ℕ) (n m : ℕ) (lo hi : Dec) → IsWordBefore 40 32 rest n (λ word. dec_of word ≡ Some lo) → left ≡ drop n rest → IsWordBefore 40 10 left m (λ word. dec_of word ≡ Some hi)
+pub sides_row : (rest left : List ℕ) (n m : ℕ) (lo hi : Dec) → IsWordBefore 40 32 rest n (λ word. dec_of word ≡ Some lo)
+    → left ≡ drop n rest → IsWordBefore 40 10 left m (λ word. dec_of word ≡ Some hi)
     → IsFrontRow rest (n + m) (λ words. IsIntervalRow ((48 ∷ []) ∷ words) (record { lo = Some lo; hi = Some hi }))
 sides_row rest left n m lo hi w is v =
     in_front 40 rest left n m (λ word. dec_of word ≡ Some lo) (IsOneOf hi) (λ words. IsIntervalRow ((48 ∷ []) ∷ words) (record { lo = Some lo; hi = Some hi })) (omega arith) w is

@@ -1,3 +1,4 @@
+pub mod RunLemmas
 pub mod DraftLemmas
 pub mod FreshLaw
 pub mod FrontRows

@@ -1,12 +1,13 @@
 -- Each node, term and head of a file has its line, where all pieces are complete.
-use Rattle.std.proofs.Common.{◌≡◌, ◌∙◌, ℕ, zero, suc, ◌+◌, ◌<◌, ◌≤◌, Bool, true, false, not, ◌&&◌, ◌||◌, ◌==◌, List, [], ◌∷◌, ◌++◌, length, drop, get_or, slice_set, refl, sym, arith, Option, Some, None, is_some}
+use Rattle.std.proofs.Common.{◌≡◌, ◌∙◌, ℕ, zero, suc, ◌+◌, ◌<◌, ◌≤◌, Bool, true, false, not, ◌&&◌, ◌||◌, ◌==◌, List, []}
+use Rattle.std.proofs.Common.{◌∷◌, ◌++◌, length, drop, get_or, slice_set, refl, sym, arith, Option, Some, None, is_some}
 use Rattle.std.specs.Prelude.{All, IfSome, IsSome, IsSomeAnd, slice_get}
 use Rattle.std.specs.Option.{option_map_or}
 use Rattle.std.proofs.lemmas.List.{get_or-set_other, length-set}
 use Rattle.std.proofs.lemmas.Grind.{get_or-set_at}
 use Rattle.std.proofs.lemmas.Bool.{eqb-true, eqb-false}
 use Rattle.std.proofs.lemmas.Option.{slice_get-get_or}
-use Rattle.nl_meaning.specs.Trees.{Tree, tree_size, trees_size, first_trees}
+use Rattle.nl_model.specs.Trees.{Tree, tree_size, trees_size, first_trees}
 use Rattle.nl_model.specs.declared.node.Node.{Node}
 use Rattle.nl_model.specs.declared.node.Node.TheVariants.{Num, Var, Defined, Op}
 use Rattle.nl_model.specs.Nodes.{tree_of, trees_of}
@@ -64,7 +65,8 @@ pub record AllLined (P : ℕ → Type 0) (both : Bool) {A : Type 0} (tree : Opti
   pub rows_count : length rows ≡ length os
   pub each : (j : ℕ) → IsLined P both (tree (get_or xs j None)) (get_or rows j []) (get_or os j no_lines)
 
-pub with_tree_at : {A : Type 0} (P : ℕ → Type 0) (both : Bool) (tree : Option A → Option Tree) (xs : List (Option A)) (rows : List (List Term)) (os : List OwnerLines) (i : ℕ) (x : Option A) (f : OwnerLines → OwnerLines) → i < length os
+pub with_tree_at : {A : Type 0} (P : ℕ → Type 0) (both : Bool) (tree : Option A → Option Tree) (xs : List (Option A))
+    (rows : List (List Term)) (os : List OwnerLines) (i : ℕ) (x : Option A) (f : OwnerLines → OwnerLines) → i < length os
     → ((ts : List Term) (o : OwnerLines) → IsLined P both (tree (get_or xs i None)) ts o → IsLined P both (tree x) ts (f o))
     → AllLined P both tree xs rows os → AllLined P both tree (slice_set xs i x) rows (changed f os i)
 with_tree_at P both tree xs rows os i x f lt step h =
@@ -81,7 +83,9 @@ with_tree_at P both tree xs rows os i x f lt step h =
         rw (same, get_or-set_at xs i i x None refl there, get_or-set_at os i i (f (get_or os i no_lines)) no_lines refl lt) (step (get_or rows i []) (get_or os i no_lines) (h.each i))
     by j false e = rw (get_or-set_other xs i j x None (eqb-false j i e), get_or-set_other os i j (f (get_or os i no_lines)) no_lines (eqb-false j i e)) (h.each j)
 
-pub with_row_at : {A : Type 0} (P : ℕ → Type 0) (both : Bool) (tree : Option A → Option Tree) (xs : List (Option A)) (rows : List (List Term)) (os : List OwnerLines) (i : ℕ) (ts : List Term) (f : OwnerLines → OwnerLines) → i < length os
+pub with_row_at : {A : Type 0} (P : ℕ → Type 0) (both : Bool) (tree : Option A → Option Tree) (xs : List (Option A))
+    (rows : List (List Term)) (os : List OwnerLines) (i : ℕ) (ts : List Term) (f : OwnerLines → OwnerLines)
+    → i < length os
     → ((t : Option Tree) (o : OwnerLines) → IsLined P both t (get_or rows i []) o → IsLined P both t ts (f o))
     → AllLined P both tree xs rows os → AllLined P both tree xs (slice_set rows i ts) (changed f os i)
 with_row_at P both tree xs rows os i ts f lt step h =
@@ -106,7 +110,8 @@ AreDefs P [] (o ∷ os) = ⊥
 AreDefs P (d ∷ ds) [] = ⊥
 AreDefs P (d ∷ ds) (o ∷ os) = IsLined P true (Some d.tree) d.terms o × AreDefs P ds os
 
-pub defs_push : (P : ℕ → Type 0) (ds : List Definition) (os : List OwnerLines) (d : Definition) (o : OwnerLines) → AreDefs P ds os → IsLined P true (Some d.tree) d.terms o → AreDefs P (ds ++ d ∷ []) (os ++ o ∷ [])
+pub defs_push : (P : ℕ → Type 0) (ds : List Definition) (os : List OwnerLines) (d : Definition) (o : OwnerLines)
+    → AreDefs P ds os → IsLined P true (Some d.tree) d.terms o → AreDefs P (ds ++ d ∷ []) (os ++ o ∷ [])
 defs_push P [] [] d o h new = (new, tt)
 defs_push P [] (p ∷ os) d o h new = absurd h
 defs_push P (e ∷ ds) [] d o h new = absurd h
@@ -117,7 +122,8 @@ defs_push P (e ∷ ds) (p ∷ os) d o h new = (h.0, defs_push P ds os d o h.1 ne
 there : (P : ℕ → Type 0) (xs : List ℕ) (i : ℕ) → All P xs → i < length xs → IsSomeAnd (slice_get xs i) P
 there P xs i h lt = rw (slice_get-get_or xs i 0 lt) (h i 0 lt)
 
-pub node_there : (P : ℕ → Type 0) (both : Bool) (tree : Option Tree) (ts : List Term) (o : OwnerLines) (i : ℕ) → IsLined P both tree ts o → i < option_map_or tree_size tree 0 → IsSomeAnd (slice_get o.nodes i) P
+pub node_there : (P : ℕ → Type 0) (both : Bool) (tree : Option Tree) (ts : List Term) (o : OwnerLines) (i : ℕ)
+    → IsLined P both tree ts o → i < option_map_or tree_size tree 0 → IsSomeAnd (slice_get o.nodes i) P
 node_there P both tree ts o i h lt = there P o.nodes i h.lines.nodes (omega (arith, lt, h.nodes))
 
 pub term_there : (P : ℕ → Type 0) (both : Bool) (tree : Option Tree) (ts : List Term) (o : OwnerLines) (i : ℕ) → IsLined P both tree ts o → i < length ts → IsSomeAnd (slice_get o.terms i) P

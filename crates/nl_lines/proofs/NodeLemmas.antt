@@ -2,8 +2,8 @@
 use Rattle.std.proofs.Common.{◌≡◌, ◌∙◌, ℕ, ◌+◌, ◌<◌, ◌≤◌, ◌^◌, ◌==◌, Bool, true, false, not, ◌||◌, List, [], ◌∷◌, refl, sym, ap, subst, arith, nat_lt, nat_le, Option, Some, None}
 use Rattle.std.specs.Prelude.{if◌then◌else◌, option_map, option_and_then, unwrap_or, codes}
 use Rattle.std.proofs.lemmas.Bool.{eqb-true, le-leb, leb-true, ltb-true, ltb-false, not-false}
-use Rattle.texts.specs.Judged.{first_reason}
-use Rattle.texts.proofs.FirstReasons.{none_head}
+use Rattle.text_base.specs.Judged.{first_reason}
+use Rattle.text_base.proofs.FirstReasons.{none_head}
 use Rattle.code_tables.specs.Opcodes.{operands_of}
 use Rattle.code_tables.specs.declared.class.Operands.{Operands}
 use Rattle.code_tables.specs.declared.class.Operands.TheVariants.{One, Two, Counted as OnNextLine}
@@ -61,7 +61,9 @@ index_known c d i h = by (nat_lt i c.n_var) refl
         let above = le-leb c.n_var i (ltb-false i c.n_var e) in
         rw e (not-false (is_defined d.definitions i) (rw above at h))
 
-variable_known : (c : Counts) (d : Draft) (o : Option ℕ) (node : Node) → option_map (variable_node c.n_var) o ≡ Some node → first_reason (variable_tests c d o) ≡ None → IsNodeKnown c.n_var d.definitions node
+variable_known : (c : Counts) (d : Draft) (o : Option ℕ) (node : Node)
+    → option_map (variable_node c.n_var) o ≡ Some node → first_reason (variable_tests c d o) ≡ None
+    → IsNodeKnown c.n_var d.definitions node
 variable_known c d None node e t = absurd cc
 variable_known c d (Some i) node e t =
     subst (IsNodeKnown c.n_var d.definitions) (ap (λ o. unwrap_or o node) e) (index_known c d i (by (nat_lt i (c.n_var + defined_count c)) (is_undefined c d i) refl t))
@@ -85,7 +87,9 @@ leaf_known c d words node e t =
     by (letter_of words == 110) ((letter_of words == 115) || (letter_of words == 108)) (letter_of words == 118) (letter_of words == 111) e t
   where
     by : (n s v o : Bool) → leaf c words n s v o ≡ Some node
-        → first_reason (if n then number_tests (dec_of (leaf_text words)) else (if v then variable_tests c d (own_number words) else (if o then opcode_tests (own_number words) else number_tests (dec_of_signed (leaf_text words))))) ≡ None
+        → first_reason (if n then number_tests (dec_of (leaf_text words)) else
+        (if v then variable_tests c d (own_number words) else
+        (if o then opcode_tests (own_number words) else number_tests (dec_of_signed (leaf_text words))))) ≡ None
         → IsNodeKnown c.n_var d.definitions node
     by true s v o e t = number_known c.n_var d.definitions (dec_of (leaf_text words)) node e
     by false true v o e t = number_known c.n_var d.definitions (dec_of_signed (leaf_text words)) node e
@@ -93,7 +97,8 @@ leaf_known c d words node e t =
     by false false false true e t = opcode_known c.n_var d.definitions (own_number words) node e
     by false false false false e t = absurd cc
 
-pub node_known : (c : Counts) (d : Draft) (words : List (List ℕ)) (node : Node) → node_in c.n_var words ≡ Some node → first_reason (node_form_tests c d words) ≡ None → IsNodeKnown c.n_var d.definitions node
+pub node_known : (c : Counts) (d : Draft) (words : List (List ℕ)) (node : Node) → node_in c.n_var words ≡ Some node
+    → first_reason (node_form_tests c d words) ≡ None → IsNodeKnown c.n_var d.definitions node
 unfolding node_form_tests
 node_known c d words node e t =
     leaf_known c d words node e

@@ -5,7 +5,7 @@ use Rattle.std.specs.Prelude.{FitsSigned}
 use Rattle.std.proofs.lemmas.Int.{to_z-of_z}
 use mir.Syntax.{w32, w64}
 use mir.Val.{to_z, of_z}
-use Rattle.fractions.specs.Rational.{whole}
+use Rattle.exact_numbers.specs.Rational.{whole}
 use Rattle.exact_numbers.specs.Values.{dec_value}
 use Rattle.exact_numbers.specs.declared.dec.Dec.{Dec}
 use Rattle.exact_numbers.specs.Numbers.{has_31_bits, signed_of}
@@ -16,7 +16,8 @@ fits-64 : (z : ℤ) → has_31_bits z ≡ true → FitsSigned w64 z
 fits-64 (pos n) e = record { sfits = let small = ltb-true n (2 ^ 31) e in omega arith }
 fits-64 (negsuc n) e = record { sfits = let small = ltb-true n (2 ^ 31) e in omega arith }
 
-pub dec_of_signed-some : (text : List ℕ) (r : Option ℤ) (z : ℤ) (d : Dec) → r ≡ signed_of text → r ≡ Some z → dec_value d ≡ whole (to_z w64 (of_z w64 (to_z w32 (of_z w32 z)))) → dec_of_signed text ≡ Some d
+pub dec_of_signed-some : (text : List ℕ) (r : Option ℤ) (z : ℤ) (d : Dec) → r ≡ signed_of text → r ≡ Some z
+    → dec_value d ≡ whole (to_z w64 (of_z w64 (to_z w32 (of_z w32 z)))) → dec_of_signed text ≡ Some d
 unfolding dec_of_signed
 dec_of_signed-some text r z d e is same =
     let read : signed_of text ≡ Some z = sym e ∙ is in

@@ -9,7 +9,7 @@ use Rattle.code_tables.specs.declared.class.OpcodeRow.{OpcodeRow}
 use Rattle.code_tables.specs.declared.class.Operands.{Operands}
 use Rattle.code_tables.specs.declared.class.Operands.TheVariants.{One, Two, Counted}
 use Rattle.std.proofs.Common.{◌∙◌, ◌<◌, ◌^◌}
-use Rattle.nl_meaning.specs.Trees.{Takes, rule_of}
+use Rattle.nl_model.specs.Trees.{Takes, rule_of}
 
 -- the operands are as many as the class wants
 abbrev pub Fits : Operands → OpClass → Type 0

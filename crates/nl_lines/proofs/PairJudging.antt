@@ -2,8 +2,8 @@
 use Rattle.std.proofs.Common.{◌≡◌, ◌∙◌, ℕ, ◌<◌, Bool, true, false, not, ◌&&◌, List, [], ◌∷◌, ◌++◌, refl, sym, ap, ap₂, Option, Some, None, get_or, nat_lt}
 use Rattle.std.specs.Prelude.{unwrap_or, is_none}
 use Rattle.std.proofs.lemmas.Bool.{ltb-true}
-use Rattle.texts.specs.Judged.{first_reason}
-use Rattle.texts.proofs.FirstReasons.{none_each, reason_before, reason_after, same_reasons}
+use Rattle.text_base.specs.Judged.{first_reason}
+use Rattle.text_base.proofs.FirstReasons.{none_each, reason_before, reason_after, same_reasons}
 use Rattle.exact_numbers.specs.declared.dec.Dec.{Dec}
 use Rattle.nl_model.specs.declared.header_counts.Counts.{Counts}
 use Rattle.nl_model.specs.File.{Term}
@@ -11,7 +11,7 @@ use Rattle.nl_lines.specs.declared.fault.NlReason.TheVariants.{TooLarge, Repeate
 use Rattle.nl_lines.specs.declared.fault.NlReason.{NlReason}
 use Rattle.nl_lines.specs.declared.head.Head.{Head}
 use Rattle.exact_numbers.specs.Numbers.{dec_of, whole_of}
-use Rattle.texts.specs.Words.{word_at}
+use Rattle.text_base.specs.Words.{word_at}
 use Rattle.nl_lines.specs.Pieces.{Piece, pair_in, piece_pairs}
 use Rattle.nl_lines.specs.Tests.{Tests, has_index, holds_once, index_limit, is_some_below, is_full, pair_form_tests, pair_tests, wants_whole_values}
 use Rattle.nl_lines.specs.PairTests.{next_pair_tests, IsMarked}
@@ -30,7 +30,8 @@ index_of words t e = by (whole_of (word_at words 0)) (dec_of (word_at words 1)) 
 abbrev last_tests : Bool → Bool → Tests
 last_tests repeated full = (repeated, RepeatedIndex) ∷ (full, TooLarge) ∷ []
 
-module _ (c : Counts) (head : Head) (marks : List Bool) (full : Bool) (words : List (List ℕ)) (limit : ℕ) (whole : Bool) (limit_is : limit ≡ index_limit c head) (whole_is : whole ≡ wants_whole_values head) where
+module _ (c : Counts) (head : Head) (marks : List Bool) (full : Bool) (words : List (List ℕ)) (limit : ℕ) (whole : Bool)
+    (limit_is : limit ≡ index_limit c head) (whole_is : whole ≡ wants_whole_values head) where
   abbrev form : Tests
   form = pair_form_tests limit whole words
 
@@ -87,7 +88,8 @@ pair_found limit whole words e =
     by i None q f = absurd cc
     by i (Some d) q f = record { term = (i.index, d); says = rw (i.is, q) refl; below = i.below }
 
-same_mark : (c : Counts) (marks : List Bool) (p : Piece) (i : ℕ) → IsMarked c marks p → i < index_limit c p.head → (holds_once p.head && has_index (piece_pairs p) i) ≡ (holds_once p.head && get_or marks i false)
+same_mark : (c : Counts) (marks : List Bool) (p : Piece) (i : ℕ) → IsMarked c marks p → i < index_limit c p.head
+    → (holds_once p.head && has_index (piece_pairs p) i) ≡ (holds_once p.head && get_or marks i false)
 same_mark c marks p i h lt = by (holds_once p.head) refl
   where
     by : (b : Bool) → holds_once p.head ≡ b → (holds_once p.head && has_index (piece_pairs p) i) ≡ (holds_once p.head && get_or marks i false)

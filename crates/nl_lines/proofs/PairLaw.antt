@@ -110,7 +110,8 @@ total_first p pieces = by (is_linear p.head) refl
     by true e = rw e (sum_by-cons (λ p. length (piece_pairs p)) p (filter (λ p. is_linear p.head) pieces))
     by false e = rw e (omega arith)
 
-fold_count : (f : Draft → ℕ) → ((d : Draft) (p : Piece) (h : Head) → f (said_by d p h) ≤ f d + linear_in p h) → (pieces : List Piece) (d : Draft) → f (fold with_piece d pieces) ≤ f d + pair_total is_linear pieces
+fold_count : (f : Draft → ℕ) → ((d : Draft) (p : Piece) (h : Head) → f (said_by d p h) ≤ f d + linear_in p h)
+    → (pieces : List Piece) (d : Draft) → f (fold with_piece d pieces) ≤ f d + pair_total is_linear pieces
 fold_count f step [] d = omega arith
 fold_count f step (p ∷ pieces) d = omega (arith, fold_count f step pieces (with_piece d p), step d p p.head, total_first p pieces)
 

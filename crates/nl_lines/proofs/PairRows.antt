@@ -1,14 +1,16 @@
 -- A row that is an index and a value alone is judged by its pair.
-use Rattle.std.proofs.Common.{◌≡◌, ◌∙◌, ℕ, ◌+◌, ◌-◌, ◌<◌, ◌≤◌, take, drop, Bool, true, false, List, [], ◌∷◌, ◌++◌, length, refl, sym, ap, ap₂, subst, arith, append_assoc, length-append, length-take, take-append-drop, Option, Some, None, get_or}
+use Rattle.std.proofs.Common.{◌≡◌, ◌∙◌, ℕ, ◌+◌, ◌-◌, ◌<◌, ◌≤◌, take, drop, Bool, true, false, List, [], ◌∷◌, ◌++◌}
+use Rattle.std.proofs.Common.{length, refl, sym, ap, ap₂, subst, arith, append_assoc, length-append, length-take}
+use Rattle.std.proofs.Common.{take-append-drop, Option, Some, None, get_or}
 use Rattle.std.specs.Prelude.{unwrap_or, slice_index}
 use Rattle.std.specs.Char.{digit_value}
 use Rattle.std.proofs.lemmas.List.{drop_more}
 use Rattle.std.proofs.lemmas.Bool.{ltb-true}
 use Rattle.std.proofs.lemmas.Bool.Decides.{nat_tests}
-use Rattle.texts.specs.Judged.{first_reason}
-use Rattle.texts.specs.Words.{IsUnmarked, words_of, without_comment, word_at}
-use Rattle.texts.proofs.FrontLemmas.{front_one}
-use Rattle.texts.proofs.PairLemmas.{one_line-pair, without_comment-pair, words_of-pair}
+use Rattle.text_base.specs.Judged.{first_reason}
+use Rattle.text_base.specs.Words.{IsUnmarked, words_of, without_comment, word_at}
+use Rattle.text_base.proofs.FrontLemmas.{front_one}
+use Rattle.text_base.proofs.PairLemmas.{one_line-pair, without_comment-pair, words_of-pair}
 use Rattle.exact_numbers.specs.declared.dec.Dec.{Dec}
 use Rattle.exact_numbers.specs.Numbers.{are_any_digits, are_digits, dec_of, whole_of}
 use Rattle.exact_numbers.specs.SpelledLemmas.{first_of_both, second_of_both}
@@ -93,6 +95,11 @@ first_row text rest n m i d within space behind ends lf few few_more some whole 
     ap words_of (without_comment-pair front word index word_unmarked) ∙ words_of-pair front word (omega (arith, size, some)) index word_some word_unmarked in
     record {
       line = line;
-      first = front_one text line more ((n + m) + 2) parts (omega (arith, line_size)) (record { one = one_line-pair front word index word_some word_unmarked; short = omega (arith, line_size, few, few_more) });
+      first = front_one text line more ((n + m) + 2) parts (omega (arith, line_size))
+          (record {
+            one = one_line-pair front word index word_some word_unmarked;
+            short =
+                omega (arith, line_size, few, few_more);
+          });
       pair = subst (λ ws. IsPairRow ws (i, d)) (sym (ap (take 12) words)) (two_words front word i d whole dec);
     }

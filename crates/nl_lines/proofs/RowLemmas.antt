@@ -57,7 +57,8 @@ cons_option-append : {A : Type 0} (o : Option A) (xs ys : List A) → cons_optio
 cons_option-append None xs ys = refl
 cons_option-append (Some x) xs ys = refl
 
-pub nodes-more : (n : ℕ) (pending : Option Pending) (rows : List NumberedRow) (row : NumberedRow) → nodes_from n pending (rows ++ row ∷ []) ≡ nodes_from n pending rows ++ last_nodes n (pending_from pending rows) row
+pub nodes-more : (n : ℕ) (pending : Option Pending) (rows : List NumberedRow) (row : NumberedRow)
+    → nodes_from n pending (rows ++ row ∷ []) ≡ nodes_from n pending rows ++ last_nodes n (pending_from pending rows) row
 unfolding nodes_from pending_from
 nodes-more n None [] row = refl
 nodes-more n (Some p) [] row = refl

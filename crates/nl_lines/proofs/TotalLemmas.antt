@@ -20,5 +20,6 @@ pairs-append counts before p t =
 
 pub pairs-other : (counts : Head → Bool) (before : List Piece) (p : Piece) → counts p.head ≡ false → pair_total counts (before ++ p ∷ []) ≡ pair_total counts before
 pairs-other counts before p f =
-    let kept : filter (λ p. counts p.head) (before ++ p ∷ []) ≡ filter (λ p. counts p.head) before = filter-append (λ p. counts p.head) before (p ∷ []) ∙ rw f (append-nil (filter (λ p. counts p.head) before)) in
+    let kept : filter (λ p. counts p.head) (before ++ p ∷ []) ≡ filter (λ p. counts p.head) before =
+    filter-append (λ p. counts p.head) before (p ∷ []) ∙ rw f (append-nil (filter (λ p. counts p.head) before)) in
     ap (sum_by (λ p. length (piece_pairs p))) kept

@@ -2,9 +2,9 @@
 use Rattle.std.proofs.Common.{◌≡◌, ℕ, ◌+◌, ◌^◌, ◌&&◌, nat_le, nat_lt, arith, true, false, List, length, refl, Some, None}
 use Rattle.std.proofs.lemmas.Bool.{eqb-true, ltb-true, not-false}
 use Rattle.std.proofs.lemmas.Bool.Decides.{nat_tests}
-use Rattle.texts.specs.Judged.{first_reason}
-use Rattle.texts.specs.Words.{word_at}
-use Rattle.texts.proofs.FirstReasons.{none_each}
+use Rattle.text_base.specs.Judged.{first_reason}
+use Rattle.text_base.specs.Words.{word_at}
+use Rattle.text_base.proofs.FirstReasons.{none_each}
 use Rattle.exact_numbers.specs.Numbers.{whole_of}
 use Rattle.exact_numbers.specs.SpelledLemmas.{first_of_both, second_of_both}
 use Rattle.nl_lines.specs.Heads.{is_head}

@@ -1,7 +1,7 @@
 -- A line of an index and a value that a text begins with.
 use Rattle.std.specs.Prelude.{ℕ, List, [], ◌∷◌}
-use Rattle.texts.specs.Fronts.{IsFront}
-use Rattle.texts.specs.Words.{row_of, without_comment}
+use Rattle.text_base.specs.Fronts.{IsFront}
+use Rattle.text_base.specs.Words.{row_of, without_comment}
 use Rattle.nl_lines.specs.declared.pair_line.FirstPair.{FirstPair}
 use Rattle.nl_lines.specs.PairTests.{IsPairRow}
 

@@ -1,7 +1,7 @@
 -- A line that a text begins with.
 use Rattle.std.specs.Prelude.{ℕ, List, [], ◌∷◌}
-use Rattle.texts.specs.Fronts.{IsFront}
-use Rattle.texts.specs.Words.{row_of, without_comment}
+use Rattle.text_base.specs.Fronts.{IsFront}
+use Rattle.text_base.specs.Words.{row_of, without_comment}
 
 -- the text begins with a line, which has so many bytes with the LF behind it, and this holds of the
 -- line's words

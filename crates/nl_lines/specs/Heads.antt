@@ -1,12 +1,12 @@
 -- The heads of segments (Gay 2005, "Writing .nl Files", segments).
 use Rattle.std.specs.Prelude.{ℕ, ◌+◌, ◌==◌, Bool, ◌&&◌, ◌||◌, not, nat_le, nat_lt, List, length, drop, slice_index, Option, Some, None, option_map, option_and_then, if◌then◌else◌, codes}
 use Rattle.std.specs.List.{list_any}
-use Rattle.texts.specs.Names.{is_name}
+use Rattle.text_base.specs.Names.{is_name}
 use Rattle.nl_model.specs.declared.header_counts.Counts.{Counts}
 use Rattle.nl_lines.specs.declared.head.Head.{Head}
 use Rattle.nl_lines.specs.declared.head.Head.TheVariants.{Body, Objective, Definition, DualGuesses, PrimalGuesses, Sides, Bounds, ColumnCounts, Terms, Slopes, Suffix}
 use Rattle.exact_numbers.specs.Numbers.{whole_of}
-use Rattle.texts.specs.Words.{word_at}
+use Rattle.text_base.specs.Words.{word_at}
 use Rattle.nl_lines.specs.Segment.{is_subject_of, segment_of}
 
 -- the first byte of the first word

@@ -1,7 +1,7 @@
 -- Words of a line that a text begins with, one after the other.
 use Rattle.std.specs.Prelude.{◌≡◌, ℕ, ◌+◌, ◌*◌, ◌<◌, ◌≤◌, ◌==◌, false, List, [], ◌∷◌, ◌++◌, length}
-use Rattle.texts.specs.Cut.{HasNoEnd}
-use Rattle.texts.specs.Words.{IsUnmarked, words_of, without_comment}
+use Rattle.text_base.specs.Cut.{HasNoEnd}
+use Rattle.text_base.specs.Words.{IsUnmarked, words_of, without_comment}
 
 -- the text begins with a word of at most so many bytes, of which this holds, and then this byte
 pub record IsWordBefore (most byte : ℕ) (text : List ℕ) (len : ℕ)

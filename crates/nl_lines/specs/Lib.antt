@@ -1,3 +1,6 @@
+pub mod InsideEarlierRuns
+pub mod InsideLineRuns
+pub mod Owners
 pub mod Heads
 pub mod Leaves
 pub mod NodeRows

@@ -7,11 +7,11 @@ use Rattle.code_tables.specs.declared.class.Operands.TheVariants.{One, Two, Coun
 use Rattle.nl_model.specs.declared.node.Node.{Node}
 use Rattle.nl_model.specs.declared.node.Node.TheVariants.{Num, Var, Defined, Op}
 pub use Rattle.nl_lines.specs.declared.pending.Pending.{Pending}
-use Rattle.fractions.specs.Rational.{whole}
+use Rattle.exact_numbers.specs.Rational.{whole}
 use Rattle.exact_numbers.specs.declared.dec.Dec.{Dec}
 use Rattle.exact_numbers.specs.Numbers.{signed_of, dec_from, dec_of}
 use Rattle.nl_lines.specs.Rows.{NumberedRow, row_words}
-use Rattle.texts.specs.Words.{word_at}
+use Rattle.text_base.specs.Words.{word_at}
 use Rattle.nl_lines.specs.Heads.{letter_of, own_number, number_at}
 
 -- a node, and the line where it stands

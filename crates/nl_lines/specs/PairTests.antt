@@ -7,7 +7,7 @@ use Rattle.nl_model.specs.Rules.{most_terms}
 use Rattle.nl_lines.specs.declared.fault.NlReason.TheVariants.{BadNumber, IndexOut, RepeatedIndex, TooLarge}
 use Rattle.nl_lines.specs.declared.head.Head.{Head}
 use Rattle.exact_numbers.specs.Numbers.{whole_of, is_whole}
-use Rattle.texts.specs.Words.{word_at}
+use Rattle.text_base.specs.Words.{word_at}
 use Rattle.nl_lines.specs.Pieces.{Piece, pair_in, piece_pairs}
 use Rattle.nl_lines.specs.Tests.{Tests, has_index, holds_once, index_limit, is_linear, is_suffix, pair_form_tests, wants_whole_values}
 

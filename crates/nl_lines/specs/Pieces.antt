@@ -14,7 +14,7 @@ use Rattle.nl_lines.specs.declared.awaited.Awaited.TheVariants.{Nothing, Node as
 use Rattle.nl_lines.specs.declared.head.Head.{Head}
 use Rattle.exact_numbers.specs.Numbers.{dec_of}
 use Rattle.nl_lines.specs.Rows.{NumberedRow, row_words}
-use Rattle.texts.specs.Words.{word_at}
+use Rattle.text_base.specs.Words.{word_at}
 use Rattle.nl_lines.specs.Segment.{kind_in, lines_in, pairs_in, segment_of}
 use Rattle.nl_lines.specs.Heads.{is_head, head_of, name_in, number_at}
 use Rattle.nl_lines.specs.Nodes.{Placed, Pending, nodes_of, pending_from, only_nodes}

@@ -1,7 +1,7 @@
 -- The rows of an .nl text: its lines that hold words, without their comments. The first ten are the
 -- header, and the others are the body.
 use Rattle.std.specs.Prelude.{ℕ, ◌+◌, ◌==◌, not, Bool, List, [], ◌∷◌, length, take, map, if◌then◌else◌}
-use Rattle.texts.specs.Words.{words_of, row_of, without_comment}
+use Rattle.text_base.specs.Words.{words_of, row_of, without_comment}
 
 -- the number of the line in the text, counted from 1, and its text without the comment
 pub record NumberedRow : Type 0 where

@@ -13,8 +13,8 @@ use Rattle.nl_model.specs.declared.objective.Objective.{Objective as FileObjecti
 use Rattle.nl_model.specs.declared.suffix.Suffix.{Suffix as FileSuffix}
 use Rattle.nl_model.specs.Draft.{Draft, empty_draft}
 use Rattle.nl_model.specs.Nodes.{tree_of}
-use Rattle.nl_meaning.specs.Trees.{Tree}
-pub use Rattle.line_places.specs.Owners.{OwnerLines, no_lines}
+use Rattle.nl_model.specs.Trees.{Tree}
+pub use Rattle.nl_lines.specs.Owners.{OwnerLines, no_lines}
 use Rattle.nl_lines.specs.declared.head.Head.{Head}
 use Rattle.nl_lines.specs.declared.head.Head.TheVariants.{Body, Objective, Definition, DualGuesses, PrimalGuesses, Sides, Bounds, ColumnCounts, Terms, Slopes, Suffix}
 use Rattle.nl_lines.specs.Nodes.{only_nodes}

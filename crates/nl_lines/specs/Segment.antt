@@ -4,7 +4,7 @@ use Rattle.std.specs.Prelude.{ℕ, ◌+◌, ◌==◌, ◌%◌, Bool, true, false
 use Rattle.nl_model.specs.declared.header_counts.Counts.{Counts}
 use Rattle.nl_model.specs.HeaderRules.{defined_count}
 use Rattle.nl_model.specs.Rules.{object_count}
-use Rattle.shared_parts.specs.SuffixKinds.{wants_whole as is_whole_kind}
+use Rattle.nl_model.specs.SuffixKinds.{wants_whole as is_whole_kind}
 use Rattle.nl_lines.specs.declared.awaited.Awaited.{Awaited}
 use Rattle.nl_lines.specs.declared.awaited.Awaited.TheVariants.{Pair, ColumnCount, Interval as IntervalLine}
 use Rattle.nl_lines.specs.declared.head.Head.{Head}

@@ -5,7 +5,7 @@ use Rattle.std.specs.List.{list_all, list_any, filter_map, flat_map}
 use Rattle.std.specs.Option.{option_map_or}
 use Rattle.std.specs.Str.{bytes_eq}
 use Rattle.std.specs.Ordering.{is_lt}
-use Rattle.fractions.specs.Rational.{ℚ, whole}
+use Rattle.exact_numbers.specs.Rational.{ℚ, whole}
 use Rattle.code_tables.specs.Opcodes.{operands_of}
 use Rattle.exact_numbers.specs.declared.dec.Dec.{Dec}
 use Rattle.exact_numbers.specs.Values.{dec_value, order_of}
@@ -27,7 +27,7 @@ use Rattle.nl_lines.specs.declared.head.Head.{Head}
 use Rattle.nl_lines.specs.declared.head.Head.TheVariants.{ColumnCounts}
 use Rattle.exact_numbers.specs.Numbers.{are_digits, whole_of, dec_of, is_whole}
 use Rattle.nl_lines.specs.Nodes.{dec_of_signed, leaf_text}
-use Rattle.texts.specs.Words.{word_at}
+use Rattle.text_base.specs.Words.{word_at}
 use Rattle.nl_lines.specs.Segment.{are_linear, are_sides, are_suffix_values, are_whole, is_same_segment, limit_in, segment_of}
 use Rattle.nl_lines.specs.Heads.{letter_of, is_among, is_head, is_segment_letter, is_refused_letter, own_number, number_at, head_of, name_in, is_in_range}
 use Rattle.nl_lines.specs.Pieces.{Piece, awaited_of, is_nothing, last_piece, piece_nodes, piece_pairs, interval_in}

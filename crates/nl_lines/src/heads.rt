@@ -1,9 +1,9 @@
 // Reading the heads of segments.
 ghost use Rattle.std.specs.Prelude.{◌≡◌, ◌+◌, ◌&&◌, nat_le, nat_lt, Some};
-ghost use Rattle.texts.specs.Judged.{Decides};
+ghost use Rattle.text_base.specs.Judged.{Decides};
 ghost use Rattle.nl_lines.specs.Tests.{head_form_tests};
 ghost use Rattle.nl_model.specs.HeaderRules.{defined_count};
-ghost use Rattle.texts.specs.Words.{texts};
+ghost use Rattle.text_base.specs.Words.{texts};
 ghost use Rattle.nl_lines.specs.Heads.{bare_head, numbered_head, counted_head, definition_head, of_columns, suffix_head, with_sense, head_of, is_in_range};
 ghost use Rattle.nl_lines.specs.declared.head.Head.TheVariants.{Body, DualGuesses, PrimalGuesses, Sides, Bounds, Terms, Slopes};
 
@@ -12,7 +12,7 @@ use crate::head::Head;
 use crate::segment::{Subject, segment_of};
 use crate::words::{is_refused_letter, is_segment_letter, letter_of, number_at, own_number};
 use nl_model::Counts;
-use texts::{is_name, word_at};
+use text_base::{is_name, word_at};
 
 // The head of a letter alone.
 fn bare_head(head: Head, words: &[&[u8]]) -> Option<Head>

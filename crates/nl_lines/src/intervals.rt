@@ -1,8 +1,8 @@
 // Lines of intervals.
 ghost use Rattle.std.specs.Prelude.{◌≡◌, ◌||◌, ◌&&◌, not, option_map, Some, None, codes};
 ghost use Rattle.std.specs.Str.{bytes_eq};
-ghost use Rattle.texts.specs.Judged.{Decides};
-ghost use Rattle.texts.specs.Words.{texts, word_at};
+ghost use Rattle.text_base.specs.Judged.{Decides};
+ghost use Rattle.text_base.specs.Words.{texts, word_at};
 ghost use Rattle.exact_numbers.specs.Values.{dec_value};
 ghost use Rattle.nl_lines.specs.Pieces.{between, interval_in};
 ghost use Rattle.nl_lines.specs.Tests.{SaysInterval, has_sides, is_empty, is_within_unit, is_value_below, interval_form_tests};
@@ -11,7 +11,7 @@ use crate::fault::NlReason;
 use exact_numbers::{Dec, dec_of};
 use nl_model::Interval;
 use std::cmp::Ordering;
-use texts::word_at;
+use text_base::word_at;
 
 // Whether the value of one is below that of the other.
 fn is_value_below(a: Dec, b: Dec) -> bool

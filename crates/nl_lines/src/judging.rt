@@ -1,7 +1,7 @@
 // Judging a pair by the marks of the indices that came.
 ghost use Rattle.std.specs.Prelude.{◌≡◌, ◌<◌, ◌≤◌, ◌&&◌, length, get_or, false};
-ghost use Rattle.texts.specs.Judged.{Decides};
-ghost use Rattle.texts.specs.Words.{texts};
+ghost use Rattle.text_base.specs.Judged.{Decides};
+ghost use Rattle.text_base.specs.Words.{texts};
 ghost use Rattle.nl_lines.specs.PairTests.{SaysFreshPair, next_pair_tests};
 ghost use Rattle.nl_lines.specs.Tests.{holds_once, index_limit};
 
@@ -11,7 +11,7 @@ use crate::head_rules::{holds_once, index_limit, wants_whole};
 use crate::pairs::read_pair;
 use exact_numbers::Dec;
 use nl_model::Counts;
-use texts::Marks;
+use text_base::Marks;
 
 // Whether the index came before, where it comes once.
 fn is_repeated(head: Head, marks: &Marks, index: u32) -> bool

@@ -1,6 +1,6 @@
 // What a letter and a number alone are in an expression.
 ghost use Rattle.std.specs.Prelude.{List, ℕ};
-ghost use Rattle.texts.specs.Judged.{Decides};
+ghost use Rattle.text_base.specs.Judged.{Decides};
 ghost use Rattle.nl_lines.specs.Leaves.{IsLeafRow};
 ghost use Rattle.nl_lines.specs.NodeRows.{IsReadAs};
 ghost use Rattle.nl_lines.specs.Nodes.{node_in, opcode_in};

@@ -1,8 +1,9 @@
-// The lines of segments of .nl texts: what they are and say, and what judges the words of a line by
-// themselves.
+// The lines of segments of .nl texts: what they are and say, what judges them by themselves, and
+// where an owner's lines stand.
 #![tactic(auto)]
 
 mod awaited;
+mod earlier_runs;
 mod fault;
 mod front_heads;
 mod front_leaves;
@@ -15,9 +16,11 @@ mod intervals;
 mod judging;
 mod leaf;
 mod leaf_row;
+mod line_runs;
 mod node_row;
 mod nodes;
 mod number_lines;
+mod owner_lines;
 mod pair_line;
 mod pairs;
 mod pending;
@@ -42,6 +45,7 @@ pub use leaf_row::read_leaf_row;
 pub use node_row::NodeRow;
 pub use nodes::read_node;
 pub use number_lines::{is_operand_count, read_column, read_operand_count};
+pub use owner_lines::OwnerLines;
 pub use pair_line::{FirstPair, first_pair};
 pub use pending::Pending;
 pub use words::is_head;

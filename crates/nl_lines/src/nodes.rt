@@ -1,7 +1,7 @@
 // Lines of expressions.
 ghost use Rattle.std.specs.Prelude.{◌≡◌, true, Some, None, codes, option_map, option_and_then};
-ghost use Rattle.texts.specs.Judged.{Decides};
-ghost use Rattle.texts.specs.Words.{texts};
+ghost use Rattle.text_base.specs.Judged.{Decides};
+ghost use Rattle.text_base.specs.Words.{texts};
 ghost use Rattle.code_tables.specs.Opcodes.{operands_of};
 ghost use Rattle.nl_model.specs.declared.node.Node.TheVariants.{Num};
 ghost use Rattle.nl_lines.specs.Heads.{is_among};

@@ -1,14 +1,14 @@
 // Lines of one whole number.
 ghost use Rattle.std.specs.Prelude.{◌≡◌, ◌^◌, ◌&&◌, nat_le, nat_lt, Some};
-ghost use Rattle.texts.specs.Judged.{Decides};
-ghost use Rattle.texts.specs.Words.{texts, word_at};
+ghost use Rattle.text_base.specs.Judged.{Decides};
+ghost use Rattle.text_base.specs.Words.{texts, word_at};
 ghost use Rattle.exact_numbers.specs.Numbers.{whole_of};
 ghost use Rattle.nl_lines.specs.Tests.{SaysOperandCount, column_tests, operand_tests};
 
 use crate::fault::NlReason;
 use crate::words::number_at;
 use exact_numbers::are_digits;
-use texts::word_at;
+use text_base::word_at;
 
 /// An operator has at most so many operands.
 const MOST_OPERANDS: u32 = 4_194_304;

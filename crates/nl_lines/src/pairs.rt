@@ -1,7 +1,7 @@
 // Lines of an index and a value.
 ghost use Rattle.std.specs.Prelude.{◌≡◌, ◌<◌, ◌&&◌, not, Some};
-ghost use Rattle.texts.specs.Judged.{Decides};
-ghost use Rattle.texts.specs.Words.{texts};
+ghost use Rattle.text_base.specs.Judged.{Decides};
+ghost use Rattle.text_base.specs.Words.{texts};
 ghost use Rattle.nl_lines.specs.Pieces.{pair_in};
 ghost use Rattle.nl_lines.specs.Tests.{pair_form_tests};
 ghost use Rattle.exact_numbers.specs.Numbers.{is_whole};
@@ -9,7 +9,7 @@ ghost use Rattle.exact_numbers.specs.Numbers.{is_whole};
 use crate::fault::NlReason;
 use crate::words::number_at;
 use exact_numbers::{Dec, are_digits, dec_of};
-use texts::word_at;
+use text_base::word_at;
 
 fn is_whole(value: Dec) -> bool
     ensures { result ≡ is_whole value }

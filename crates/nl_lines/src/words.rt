@@ -1,11 +1,11 @@
 // Words of rows.
 ghost use Rattle.std.specs.Prelude.{◌≡◌, slice_index, drop, codes};
-ghost use Rattle.texts.specs.Words.{texts};
+ghost use Rattle.text_base.specs.Words.{texts};
 ghost use Rattle.nl_lines.specs.Heads.{letter_of, own_number, number_at, is_among, is_head, is_refused_letter, is_segment_letter};
 ghost use Rattle.nl_lines.specs.Nodes.{leaf_text};
 
 use exact_numbers::whole_of;
-use texts::word_at;
+use text_base::word_at;
 
 /// The first byte; 0 where there is none.
 pub fn first_byte(word: &[u8]) -> u8

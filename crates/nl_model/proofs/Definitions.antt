@@ -1,10 +1,12 @@
 -- What definitions keep as one more is given.
-use Rattle.std.proofs.Common.{◌≡◌, ◌⊎◌, ℕ, ◌+◌, ◌<◌, ◌≤◌, Bool, true, false, ◌||◌, eqb, List, [], ◌∷◌, ◌++◌, length, get_or, set, ◌∙◌, sym, ap, subst, refl, arith, Option, IfSome, None, Some, append_assoc, append-nil, inl, inr, get_or-set_same, get_or-set_other, eq-eqb}
+use Rattle.std.proofs.Common.{◌≡◌, ◌⊎◌, ℕ, ◌+◌, ◌<◌, ◌≤◌, Bool, true, false, ◌||◌, eqb, List, [], ◌∷◌, ◌++◌, length}
+use Rattle.std.proofs.Common.{get_or, set, ◌∙◌, sym, ap, subst, refl, arith, Option, IfSome, None, Some, append_assoc}
+use Rattle.std.proofs.Common.{append-nil, inl, inr, get_or-set_same, get_or-set_other, eq-eqb}
 use Rattle.std.proofs.Math.ListN.{length-set}
 use Rattle.std.proofs.lemmas.Bool.{ne_eqb, cases_eq, or_left}
 use Rattle.std.proofs.lemmas.List.Elements.{All-weaker}
 use Rattle.std.proofs.lemmas.List.Folds.{list_any-append}
-use Rattle.nl_meaning.specs.Trees.{Tree, number, variable, defined, operator, Trees, none, more}
+use Rattle.nl_model.specs.Trees.{Tree, number, variable, defined, operator, Trees, none, more}
 use Rattle.nl_model.specs.declared.definition.Def.{Def as Definition}
 use Rattle.nl_model.specs.declared.objective.Objective.{Objective}
 use Rattle.nl_model.specs.HeaderRules.{defined_count}
@@ -98,7 +100,9 @@ kept-define d marks count x place k fine at =
         };
         objectives = record {
           count = k.draft.objectives.count;
-          known = All-weaker (λ o. IfSome o (λ y. IsTreeKnown n d.definitions y.tree)) (λ o. IfSome o (λ y. IsTreeKnown n (d.definitions ++ x ∷ []) y.tree)) (objective_more n d.definitions x) d.objectives k.draft.objectives.known;
+          known = All-weaker (λ o. IfSome o (λ y. IsTreeKnown n d.definitions y.tree))
+              (λ o. IfSome o (λ y. IsTreeKnown n (d.definitions ++ x ∷ []) y.tree)) (objective_more n d.definitions x)
+              d.objectives k.draft.objectives.known;
         };
         terms = k.draft.terms;
         side_count = k.draft.side_count;

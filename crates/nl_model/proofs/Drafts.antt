@@ -1,5 +1,7 @@
 -- What a draft keeps as its parts are those_given.
-use Rattle.std.proofs.Common.{◌≡◌, ℕ, zero, suc, ◌+◌, ◌<◌, ◌≤◌, Bool, List, [], ◌∷◌, ◌++◌, length, get_or, set, ◌∙◌, sym, ap, subst, refl, arith, All, Option, None, Some, IsSome, IfSome, is_some, true, slice_get}
+use Rattle.std.proofs.Common.{◌≡◌, ℕ, zero, suc, ◌+◌, ◌<◌, ◌≤◌, Bool, List, [], ◌∷◌, ◌++◌, length, get_or, set, ◌∙◌}
+use Rattle.std.proofs.Common.{sym, ap, subst, refl, arith, All, Option, None, Some, IsSome, IfSome, is_some, true}
+use Rattle.std.proofs.Common.{slice_get}
 use Rattle.std.proofs.Math.ListN.{length-set}
 use Rattle.std.proofs.lemmas.List.{length_push, get_or_default}
 use Rattle.std.proofs.lemmas.List.Elements.{All-push, All-set, All-get_or, All-head, All-tail, All-cons, All-nil}

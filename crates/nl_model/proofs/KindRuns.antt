@@ -1,11 +1,13 @@
 -- The kinds of variables are those of their runs.
-use Rattle.std.proofs.Common.{◌≡◌, ◌∙◌, drop, take, ◌<◌, ◌≤◌, ◌+◌, ℕ, zero, suc, ◌-◌, min, length, nat_le, Bool, true, false, nat_lt, if◌then◌else◌, List, [], ◌∷◌, ◌++◌, get_or, replicate, ap, refl, sym, arith}
+use Rattle.std.proofs.Common.{◌≡◌, ◌∙◌, drop, take, ◌<◌, ◌≤◌, ◌+◌, ℕ, zero, suc, ◌-◌, min, length, nat_le, Bool, true}
+use Rattle.std.proofs.Common.{false, nat_lt, if◌then◌else◌, List, [], ◌∷◌, ◌++◌, get_or, replicate, ap, refl, sym}
+use Rattle.std.proofs.Common.{arith}
 use Rattle.std.proofs.lemmas.Bool.{le-ltb, lt-ltb, ltb-true, ltb-false}
 use Rattle.std.proofs.lemmas.List.{append_assoc, append-nil, get_or_append_left, get_or-append_right, drop_all, drop_more, length-append, take_all, get_or-replicate, length-replicate}
 use Rattle.nl_model.specs.declared.header_counts.Counts.{Counts}
 use Rattle.nl_model.specs.InsideKinds.{kind_among, runs}
 use Rattle.nl_model.specs.declared.kinds.Run.{Run}
-use Rattle.program_meaning.specs.Elements.{elements_from}
+use Rattle.linear_program.specs.Elements.{elements_from}
 use Rattle.nl_model.specs.Kinds.{groups, variable_kind}
 use Rattle.linear_program.specs.declared.kind.Kind.{Kind}
 use Rattle.linear_program.specs.declared.kind.Kind.TheVariants.{Continuous}
@@ -19,7 +21,9 @@ kind_listed : (rs : List Run) (j : ℕ) → get_or (kinds_of_runs rs) j Continuo
 kind_listed [] j = refl
 kind_listed (r ∷ rs) j = by (nat_lt j r.size) refl (kind_listed rs (j - r.size))
   where
-    by : (b : Bool) → nat_lt j r.size ≡ b → get_or (kinds_of_runs rs) (j - r.size) Continuous ≡ kind_among rs (j - r.size) → get_or (replicate r.size r.kind ++ kinds_of_runs rs) j Continuous ≡ (if b then r.kind else kind_among rs (j - r.size))
+    by : (b : Bool) → nat_lt j r.size ≡ b → get_or (kinds_of_runs rs) (j - r.size) Continuous
+        ≡ kind_among rs (j - r.size) → get_or (replicate r.size r.kind ++ kinds_of_runs rs) j Continuous
+        ≡ (if b then r.kind else kind_among rs (j - r.size))
     by true e later =
         let below = ltb-true j r.size e in
         get_or_append_left (replicate r.size r.kind) (kinds_of_runs rs) Continuous j (omega (arith, below, length-replicate r.size r.kind))
@@ -98,19 +102,29 @@ elements_by_runs (r ∷ rs) g i n h = by (nat_le n r.size) refl (elements_by_run
         ∙ rw all refl
 
 -- one run more of those that are left
-pub run_pushed : (rs : List Run) (i : ℕ) (d : Run) (n : ℕ) (done now all : List Kind) → i < length rs → length done ≤ n → done ++ kinds_left (drop i rs) (n - length done) ≡ all → now ≡ done ++ replicate (min (n - length done) (get_or rs i d).size) (get_or rs i d).kind → (length now ≤ n) × (now ++ kinds_left (drop (i + 1) rs) (n - length now) ≡ all)
+pub run_pushed : (rs : List Run) (i : ℕ) (d : Run) (n : ℕ) (done now all : List Kind) → i < length rs → length done ≤ n
+    → done ++ kinds_left (drop i rs) (n - length done) ≡ all → now
+    ≡ done ++ replicate (min (n - length done) (get_or rs i d).size) (get_or rs i d).kind
+    → (length now ≤ n) × (now ++ kinds_left (drop (i + 1) rs) (n - length now) ≡ all)
 run_pushed rs i d n done now all more few e is =
     let r = get_or rs i d in
     let added = replicate (min (n - length done) r.size) r.kind in
     let long : length now ≡ length done + min (n - length done) r.size = ap length is ∙ length-append done added ∙ ap (λ m. length done + m) (length-replicate (min (n - length done) r.size) r.kind) in
     let left : n - length now ≡ n - length done - r.size = omega (arith, long, few) in
-    let next : kinds_left (drop i rs) (n - length done) ≡ added ++ kinds_left (drop (i + 1) rs) (n - length done - r.size) = ap (λ xs. kinds_left xs (n - length done)) (drop_more rs i d more) in
-    (omega (arith, long, few), rw left (ap (λ xs. xs ++ kinds_left (drop (i + 1) rs) (n - length done - r.size)) is ∙ append_assoc done added (kinds_left (drop (i + 1) rs) (n - length done - r.size)) ∙ ap (λ xs. done ++ xs) (sym next) ∙ e))
+    let next : kinds_left (drop i rs) (n - length done) ≡ added ++ kinds_left (drop (i + 1) rs) (n - length done - r.size) = ap (λ xs. kinds_left xs (n - length done)) (drop_more rs i d more) in (
+      omega (arith, long, few),
+      rw left (ap (λ xs. xs ++ kinds_left (drop (i + 1) rs) (n - length done - r.size)) is
+          ∙ append_assoc done added (kinds_left (drop (i + 1) rs) (n - length done - r.size))
+          ∙ ap (λ xs. done ++ xs) (sym next) ∙ e),
+    )
 
 kinds_by_runs : (c : Counts) → kinds_left (runs c) c.n_var ≡ elements_from (variable_kind c) 0 c.n_var
 kinds_by_runs c = sym (elements_by_runs (runs c) (variable_kind c) 0 c.n_var (λ j. ap (variable_kind c) (let e : 0 + j ≡ j = omega arith in e) ∙ variable_kind_by_runs c j))
 
-pub runs_done : (c d : Counts) (rs : List Run) (i : ℕ) (done now : List Kind) → length rs ≤ i → length done ≤ c.n_var → done ++ kinds_left (drop i rs) (c.n_var - length done) ≡ kinds_left rs c.n_var → rs ≡ runs c → c ≡ d → (m : ℕ) → m ≡ length done → now ≡ take c.n_var done ++ replicate (c.n_var - m) Continuous → now ≡ elements_from (variable_kind d) 0 d.n_var
+pub runs_done : (c d : Counts) (rs : List Run) (i : ℕ) (done now : List Kind) → length rs ≤ i → length done ≤ c.n_var
+    → done ++ kinds_left (drop i rs) (c.n_var - length done) ≡ kinds_left rs c.n_var → rs ≡ runs c → c ≡ d → (m : ℕ)
+    → m ≡ length done → now ≡ take c.n_var done ++ replicate (c.n_var - m) Continuous
+    → now ≡ elements_from (variable_kind d) 0 d.n_var
 runs_done c d rs i done now last few e are same m long is =
     let left = replicate (c.n_var - length done) Continuous in
     let none : kinds_left (drop i rs) (c.n_var - length done) ≡ left = ap (λ xs. kinds_left xs (c.n_var - length done)) (drop_all i rs last) in

@@ -1,3 +1,8 @@
+pub mod Example
+pub mod Linear
+pub mod Local
+pub mod PartLemmas
+pub mod ObjectLemmas
 pub mod Definitions
 pub mod Drafts
 pub mod Guesses
@@ -7,3 +12,8 @@ pub mod OneList
 pub mod Opcodes
 pub mod Prefixes
 pub mod UseLemmas
+pub mod AllDefinitions
+pub mod Files
+pub mod Folding
+pub mod Formed
+pub mod Plain

@@ -5,7 +5,7 @@ use Rattle.code_tables.specs.declared.class.OpClass.{OpClass}
 use Rattle.code_tables.specs.declared.class.OpClass.TheVariants.{Refused}
 use Rattle.exact_numbers.specs.declared.dec.Dec.{Dec}
 use Rattle.exact_numbers.proofs.NumberLemmas.{same_dec}
-use Rattle.nl_meaning.specs.Trees.{Tree, number, variable, defined, operator, Trees, none, more, count_of, Takes, rule_of}
+use Rattle.nl_model.specs.Trees.{Tree, number, variable, defined, operator, Trees, none, more, count_of, Takes, rule_of}
 use Rattle.nl_model.specs.declared.node.Node.{Node}
 use Rattle.nl_model.specs.declared.node.Node.TheVariants.{Num, Var, Defined, Op}
 use Rattle.nl_model.specs.Nodes.{opcode_of, IsPrefix, a_number, a_variable, a_defined, an_operation, ArePrefixes}

@@ -2,10 +2,13 @@
 use Rattle.std.proofs.Common.{◌≡◌, ℕ, zero, suc, ◌+◌, ◌-◌, ◌^◌, ◌<◌, ◌≤◌, List, [], ◌∷◌, ◌++◌, drop, length, ◌∙◌, sym, ap, ap₂, subst, refl, append_assoc, append-nil, one-add, arith, length-drop}
 use Rattle.std.proofs.lemmas.List.{length_push}
 use Rattle.code_tables.specs.Opcodes.{class_of}
-use Rattle.nl_meaning.specs.Trees.{Tree, operator, Trees, none, more, first_trees, count_of, Takes, rule_of}
+use Rattle.nl_model.specs.Trees.{Tree, operator, Trees, none, more, first_trees, count_of, Takes, rule_of}
 use Rattle.nl_model.specs.declared.node.Node.{Node}
 use Rattle.nl_model.specs.declared.node.Node.TheVariants.{Num, Var, Defined, Op}
-use Rattle.nl_model.specs.Nodes.{with_node, trees_of, first_of_trees, tree_of, IsPrefix, a_number, a_variable, a_defined, an_operation, ArePrefixes, no_tree, one_more, AreNodesFormed, IsTreeFormed, AreTreesFormed, AreNodesOf, operand_count, awaited_after, awaited, IsNode, IsRun, AreNodesBegun}
+use Rattle.nl_model.specs.Nodes.{with_node, trees_of, first_of_trees, tree_of, IsPrefix, a_number, a_variable}
+use Rattle.nl_model.specs.Nodes.{a_defined, an_operation, ArePrefixes, no_tree, one_more, AreNodesFormed, IsTreeFormed}
+use Rattle.nl_model.specs.Nodes.{AreTreesFormed, AreNodesOf, operand_count, awaited_after, awaited, IsNode, IsRun}
+use Rattle.nl_model.specs.Nodes.{AreNodesBegun}
 
 -- trees before a list of trees
 abbrev before : Trees → List Tree → List Tree

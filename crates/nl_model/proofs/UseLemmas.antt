@@ -26,7 +26,11 @@ split_row (t ∷ ts) j = by (nat_lt t.0 j) (t.0 == j) refl refl (split_row ts j)
 
 pub split_rows : (rows : List (List Term)) (j : ℕ) → terms_up_to rows j ≡ below rows j + use_count rows j
 split_rows [] j = refl
-split_rows (ts ∷ rows) j = rw (sum_by-cons (λ terms. length (filter (λ t. nat_le t.0 j) terms)) ts rows, sum_by-cons (λ terms. length (filter (λ t. nat_lt t.0 j) terms)) ts rows, sum_by-cons (λ terms. uses_in terms j) ts rows) (let a = split_row ts j in let b = split_rows rows j in omega arith)
+split_rows (ts ∷ rows) j = rw (
+  sum_by-cons (λ terms. length (filter (λ t. nat_le t.0 j) terms)) ts rows,
+  sum_by-cons (λ terms. length (filter (λ t. nat_lt t.0 j) terms)) ts rows,
+  sum_by-cons (λ terms. uses_in terms j) ts rows,
+) (let a = split_row ts j in let b = split_rows rows j in omega arith)
 
 next_test : (x j : ℕ) → nat_lt x (j + 1) ≡ nat_le x j
 next_test x j = grind (arith, nat_tests)
@@ -35,13 +39,19 @@ next_row : (ts : List Term) (j : ℕ) → length (filter (λ t. nat_lt t.0 (j + 
 next_row [] j = refl
 next_row (t ∷ ts) j = by (nat_le t.0 j) refl (next_row ts j)
   where
-    by : (l : Bool) → nat_le t.0 j ≡ l → length (filter (λ t. nat_lt t.0 (j + 1)) ts) ≡ length (filter (λ t. nat_le t.0 j) ts) → length (filter (λ t. nat_lt t.0 (j + 1)) (t ∷ ts)) ≡ length (filter (λ t. nat_le t.0 j) (t ∷ ts))
+    by : (l : Bool) → nat_le t.0 j ≡ l → length (filter (λ t. nat_lt t.0 (j + 1)) ts)
+        ≡ length (filter (λ t. nat_le t.0 j) ts) → length (filter (λ t. nat_lt t.0 (j + 1)) (t ∷ ts))
+        ≡ length (filter (λ t. nat_le t.0 j) (t ∷ ts))
     by true p more = let q : nat_lt t.0 (j + 1) ≡ true = next_test t.0 j ∙ p in rw (p, q) (ap suc more)
     by false p more = let q : nat_lt t.0 (j + 1) ≡ false = next_test t.0 j ∙ p in rw (p, q) more
 
 pub next_rows : (rows : List (List Term)) (j : ℕ) → below rows (j + 1) ≡ terms_up_to rows j
 next_rows [] j = refl
-next_rows (ts ∷ rows) j = rw (sum_by-cons (λ terms. length (filter (λ t. nat_lt t.0 (j + 1)) terms)) ts rows, sum_by-cons (λ terms. length (filter (λ t. nat_le t.0 j) terms)) ts rows) (ap₂ (λ a b. a + b) (next_row ts j) (next_rows rows j))
+next_rows (ts ∷ rows) j = rw (
+  sum_by-cons (λ terms. length (filter (λ t. nat_lt t.0 (j + 1)) terms)) ts rows,
+  sum_by-cons (λ terms. length (filter (λ t. nat_le t.0 j) terms)) ts rows,
+)
+    (ap₂ (λ a b. a + b) (next_row ts j) (next_rows rows j))
 
 none_below : (ts : List Term) → length (filter (λ t. nat_lt t.0 0) ts) ≡ 0
 none_below [] = refl

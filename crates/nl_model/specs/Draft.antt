@@ -1,6 +1,6 @@
 -- A file that is being built.
 use Rattle.std.specs.Prelude.{◌≡◌, ℕ, ℤ, ◌≤◌, IsTrue, List, [], ◌∷◌, length, All, Bool, Option, Some, None, IfSome, is_some, option_and_then, slice_get, replicate}
-use Rattle.nl_meaning.specs.Trees.{Tree}
+use Rattle.nl_model.specs.Trees.{Tree}
 use Rattle.nl_model.specs.declared.header_counts.Counts.{Counts}
 use Rattle.linear_program.specs.declared.interval.Interval.{Interval}
 use Rattle.nl_model.specs.File.{Term, File}

@@ -1,7 +1,7 @@
 -- What an .nl file says (Gay 2005, "Writing .nl Files").
 use Rattle.std.specs.Prelude.{ℕ, ℤ, List, Option}
 use Rattle.exact_numbers.specs.declared.dec.Dec.{Dec}
-use Rattle.nl_meaning.specs.Trees.{Tree}
+use Rattle.nl_model.specs.Trees.{Tree}
 use Rattle.nl_model.specs.declared.header_counts.Counts.{Counts}
 use Rattle.nl_model.specs.declared.definition.Def.{Def as Definition}
 use Rattle.linear_program.specs.declared.interval.Interval.{Interval as Sides}

@@ -1,7 +1,7 @@
 -- The places that a file has: its nodes, its terms, and the heads of what has either.
 use Rattle.std.specs.Prelude.{ℕ, ◌<◌, ◌==◌, not, Bool, ◌||◌, IsTrue, List, [], length, get_or, slice_get, Option, is_some, option_map, option_and_then}
 use Rattle.std.specs.Option.{option_map_or}
-use Rattle.nl_meaning.specs.Trees.{Tree, tree_size}
+use Rattle.nl_model.specs.Trees.{Tree, tree_size}
 use Rattle.nl_model.specs.declared.at.At.{At}
 use Rattle.nl_model.specs.declared.at.At.TheVariants.{Node, Term as TermOf, Head}
 use Rattle.nl_model.specs.declared.at.Owner.{Owner}

@@ -2,7 +2,7 @@
 -- are this project's own).
 use Rattle.std.specs.Prelude.{ℕ, ◌+◌, ◌-◌, ◌^◌, ◌≤◌, max, nat_le, nat_lt, ◌==◌, ℤ, Bool, not, ◌&&◌, List, [], ◌∷◌, length}
 use Rattle.std.specs.List.{list_all}
-use Rattle.shared_parts.specs.Options.{has_second_three}
+use Rattle.nl_model.specs.Options.{has_second_three}
 use Rattle.nl_model.specs.declared.header_counts.Counts.{Counts}
 
 -- at most four options, the second of which is not 3

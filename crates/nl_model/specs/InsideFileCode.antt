@@ -1,7 +1,7 @@
 -- The codes of files and drafts, by which proofs tell them apart: those of their parts.
 use Rattle.std.specs.Prelude.{ℤ, List, Option, refl}
 use Rattle.std.specs.Coded.{Coded, code_by, coded×, coded_ℤ, coded_list, coded_option}
-use Rattle.nl_meaning.specs.Trees.{Tree}
+use Rattle.nl_model.specs.Trees.{Tree}
 use Rattle.nl_model.specs.contracts.header_counts.Counts.{the_row as counts_row}
 use Rattle.nl_model.specs.contracts.definition.Def.{the_row as definition_row}
 use Rattle.linear_program.specs.contracts.interval.Interval.{the_row as interval_row}

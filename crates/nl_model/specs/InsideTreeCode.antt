@@ -3,7 +3,7 @@ use Rattle.std.specs.Prelude.{◌≡◌, ℕ}
 use Rattle.std.proofs.Common.{ap}
 use base.Stored.{Gv, gnil, gnum, gcons, num, Coded, coded_ℤ}
 use Rattle.code_tables.specs.contracts.class.OpClass.{the_row as class_row}
-use Rattle.nl_meaning.specs.Trees.{Tree, number, variable, defined, operator, Trees, none, more}
+use Rattle.nl_model.specs.Trees.{Tree, number, variable, defined, operator, Trees, none, more}
 
 mutual
   pub code_tree : Tree → Gv

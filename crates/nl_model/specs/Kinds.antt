@@ -1,7 +1,7 @@
 -- The kinds of variables, by the groups in which they stand (Gay 2005, "Writing .nl Files", order
 -- of variables).
 use Rattle.std.specs.Prelude.{ℕ, ◌-◌, max, List, ◌++◌, get_or, replicate}
-use Rattle.program_meaning.specs.Elements.{elements_from}
+use Rattle.linear_program.specs.Elements.{elements_from}
 use Rattle.nl_model.specs.File.{File}
 use Rattle.nl_model.specs.declared.header_counts.Counts.{Counts}
 use Rattle.linear_program.specs.declared.kind.Kind.{Kind}

@@ -1,3 +1,10 @@
+pub mod Example
+pub mod Faults
+pub mod Trees
+pub mod Parts
+pub mod Reasons
+pub mod Options
+pub mod SuffixKinds
 pub mod InsideBuilt
 pub mod Draft
 pub mod File
@@ -11,3 +18,7 @@ pub mod Nodes
 pub mod Rules
 pub mod InsideTreeCode
 pub mod UseCounts
+pub mod Expressions
+pub mod FoldFaults
+pub mod LinearFile
+pub mod Meaning

@@ -3,7 +3,7 @@
 use Rattle.std.specs.Prelude.{◌≡◌, ◌≢◌, ℕ, ◌+◌, ◌^◌, ◌<◌, ◌≤◌, Bool, false, ◌&&◌, ◌==◌, IsTrue, List, [], ◌∷◌, ◌++◌, length, sum_by, All, AllPairs, Option, IfSome}
 use Rattle.std.specs.List.{list_any}
 use Rattle.std.specs.Str.{bytes_eq}
-use Rattle.nl_meaning.specs.Trees.{Tree, number, variable, defined, operator, Trees, none, more}
+use Rattle.nl_model.specs.Trees.{Tree, number, variable, defined, operator, Trees, none, more}
 use Rattle.nl_model.specs.declared.header_counts.Counts.{Counts}
 use Rattle.nl_model.specs.File.{Term, File}
 use Rattle.nl_model.specs.declared.objective.Objective.{Objective}
@@ -11,7 +11,7 @@ use Rattle.nl_model.specs.declared.definition.Def.{Def as Definition}
 use Rattle.nl_model.specs.declared.suffix.Suffix.{Suffix}
 use Rattle.nl_model.specs.HeaderRules.{is_header, defined_count}
 use Rattle.nl_model.specs.Nodes.{IsTreeFormed}
-use Rattle.shared_parts.specs.SuffixKinds.{has_same_objects, object_limit}
+use Rattle.nl_model.specs.SuffixKinds.{has_same_objects, object_limit}
 use Rattle.linear_program.specs.Intervals.{IsOrdered}
 
 -- limits: terms of all constraints together, and terms of one other owner

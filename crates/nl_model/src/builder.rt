@@ -8,6 +8,7 @@ ghost use Rattle.linear_program.specs.Intervals.{IsOrdered};
 
 use crate::definition::Def;
 use crate::expr::Expr;
+use crate::has_same_objects;
 use crate::header::Header;
 use crate::header_rules::defined_count;
 use crate::objective::Objective;
@@ -15,7 +16,6 @@ use crate::places::{lists, marks, places};
 use crate::suffix::Suffix;
 use exact_numbers::Dec;
 use linear_program::{Interval, Terms};
-use shared_parts::has_same_objects;
 use std::alloc::{AllocError, Global};
 use std::marker::Model;
 
@@ -101,6 +101,7 @@ impl NlBuilder {
         ensures { self.new
             ≡ record self.old { bodies = slice_set self.old.bodies con (Some tree) } }
     {
+        // for the prover alone: it brings what an `Expr` always keeps
         let _ = tree.nodes();
         self.bodies[con as usize] = Some(tree);
     }
@@ -116,6 +117,7 @@ impl NlBuilder {
                   (Some (record { maximise = maximise; tree = tree }));
             } }
     {
+        // for the prover alone: it brings what an `Expr` always keeps
         let _ = tree.nodes();
         self.objectives[k as usize] = Some(Objective { maximise, tree });
     }
@@ -132,6 +134,7 @@ impl NlBuilder {
             (self.new ≡ record self.old { definitions = self.old.definitions ++ def ∷ [] }) }
         ensures err { OnErr result (self.new ≡ self.old) }
     {
+        // for the prover alone: it brings what an `Expr` always keeps
         let _ = def.tree.nodes();
         let place = (def.index - self.header.counts().n_var) as usize;
         self.definitions.push(def)?;

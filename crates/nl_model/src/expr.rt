@@ -14,7 +14,7 @@ pub struct Expr {
 }
 
 impl Model for Expr {
-    ghost use Rattle.nl_meaning.specs.Trees.{Tree};
+    ghost use Rattle.nl_model.specs.Trees.{Tree};
     ghost use Rattle.nl_model.specs.InsideTreeCode.{tree_code};
 
     ghost Value = { Tree };

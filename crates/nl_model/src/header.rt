@@ -2,8 +2,8 @@
 ghost use Rattle.std.specs.Prelude.{IsTrue};
 ghost use Rattle.nl_model.specs.HeaderRules.{is_header};
 
+use crate::Options;
 use crate::header_counts::Counts;
-use shared_parts::Options;
 
 /// The first ten lines of a file that hold words: options and counts that keep the rules.
 #[derive(Drop)]

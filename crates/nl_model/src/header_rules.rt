@@ -5,7 +5,7 @@ ghost use Rattle.nl_model.specs.HeaderWords.{header_counts, header_options};
 
 use crate::header::Header;
 use crate::header_counts::Counts;
-use shared_parts::{Options, has_second_three};
+use crate::{Options, has_second_three};
 
 // The most options of a header.
 const MOST_OPTIONS: usize = 4;

@@ -3,7 +3,7 @@ ghost use Rattle.std.specs.Prelude.{◌≡◌, ℕ, List, [], ◌∷◌};
 ghost use Rattle.code_tables.specs.Opcodes.{class_of};
 ghost use Rattle.code_tables.specs.declared.class.OpClass.{OpClass};
 ghost use Rattle.code_tables.specs.declared.class.OpClass.TheVariants.{Refused};
-ghost use Rattle.nl_meaning.specs.Trees.{Tree};
+ghost use Rattle.nl_model.specs.Trees.{Tree};
 ghost use Rattle.nl_model.specs.Nodes.{IsPrefix, opcode_of, trees_of};
 ghost use Rattle.nl_model.specs.declared.node.Node.{Node};
 

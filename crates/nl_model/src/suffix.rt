@@ -1,6 +1,6 @@
 // Suffixes.
 use linear_program::Terms;
-use texts::Name;
+use text_base::Name;
 
 /// Values of a name for variables, constraints, objectives or the problem, by the objects of
 /// the kind (0 to 3).

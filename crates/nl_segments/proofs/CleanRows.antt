@@ -4,8 +4,8 @@ use Rattle.std.specs.Prelude.{IfSome, is_none, unwrap_or, if◌then◌else◌}
 use Rattle.std.proofs.lemmas.Bool.{ltb-true, ltb-false, not-false, cond_both}
 use Rattle.std.proofs.lemmas.List.{map-append}
 use Rattle.std.proofs.lemmas.List.Elements.{All-push}
-use Rattle.texts.specs.Judged.{first_reason}
-use Rattle.texts.proofs.FirstReasons.{none_head, none_each, none_first, none_second}
+use Rattle.text_base.specs.Judged.{first_reason}
+use Rattle.text_base.proofs.FirstReasons.{none_head, none_each, none_first, none_second}
 use Rattle.nl_model.specs.declared.header_counts.Counts.{Counts}
 use Rattle.nl_model.specs.declared.node.Node.{Node}
 use Rattle.nl_model.specs.declared.node.Node.TheVariants.{Op}
@@ -19,12 +19,16 @@ use Rattle.nl_lines.specs.declared.head.Head.{Head}
 use Rattle.nl_lines.specs.declared.fault.NlReason.TheVariants.{ShortSegment, RepeatedIndex, TooLarge}
 use Rattle.exact_numbers.specs.Numbers.{whole_of}
 use Rattle.nl_lines.specs.Rows.{NumberedRow, row_words}
-use Rattle.texts.specs.Words.{word_at}
+use Rattle.text_base.specs.Words.{word_at}
 use Rattle.nl_lines.specs.Heads.{is_head, head_of, name_in}
 use Rattle.nl_lines.specs.declared.pending.Pending.{Pending}
 use Rattle.nl_lines.specs.Nodes.{Placed, node_in, opcode_in, pending_in, nodes_of, pending_from, only_nodes}
-use Rattle.nl_lines.specs.Pieces.{Piece, awaited_in, awaited_of, has_tree, is_nothing, last_piece, line_count, line_kind, piece_nodes, piece_pairs, piece_pending, extended, tree_awaits, tree_rows, with_row}
-use Rattle.nl_lines.specs.Tests.{Tests, is_full, awaited_tests, formed_head_tests, has_index, head_form_tests, head_tests, holds_once, index_limit, operand_tests, pair_form_tests, pair_tests, row_tests, wants_whole_values}
+use Rattle.nl_lines.specs.Pieces.{Piece, awaited_in, awaited_of, has_tree, is_nothing, last_piece, line_count}
+use Rattle.nl_lines.specs.Pieces.{line_kind, piece_nodes, piece_pairs, piece_pending, extended, tree_awaits, tree_rows}
+use Rattle.nl_lines.specs.Pieces.{with_row}
+use Rattle.nl_lines.specs.Tests.{Tests, is_full, awaited_tests, formed_head_tests, has_index, head_form_tests}
+use Rattle.nl_lines.specs.Tests.{head_tests, holds_once, index_limit, operand_tests, pair_form_tests, pair_tests}
+use Rattle.nl_lines.specs.Tests.{row_tests, wants_whole_values}
 use Rattle.nl_segments.specs.Current.{IsPending}
 use Rattle.nl_segments.specs.Held.{AreSound, IsSoundPiece}
 use Rattle.nl_lines.proofs.RowLemmas.{early_tree, last_nodes, last_pending, late_tree, pending-more, tree_count}
@@ -51,7 +55,9 @@ pub inside_tree : (c : Counts) (p : Piece) (kind : Awaited) → awaited_in c p �
 unfolding awaited_in
 inside_tree c p kind e tree = by (nat_lt (length p.rows) (line_count c p.head)) (has_tree p.head) refl refl e
   where
-    by : (t u : Bool) → nat_lt (length p.rows) (line_count c p.head) ≡ t → has_tree p.head ≡ u → (if t then line_kind p.head else (if u then tree_awaits (piece_nodes c p) (piece_pending p) else Nothing)) ≡ kind
+    by : (t u : Bool) → nat_lt (length p.rows) (line_count c p.head) ≡ t → has_tree p.head ≡ u
+        → (if t then line_kind p.head else (if u then tree_awaits (piece_nodes c p) (piece_pending p) else Nothing))
+        ≡ kind
         → IsInside c p kind
     by true u q r is = absurd (never (sym (ap in_tree is ∙ tree) ∙ lines_before p.head))
     by false true q r is =
@@ -88,8 +94,12 @@ running_row : (c : Counts) (p : Piece) (row : NumberedRow) (o : Option Pending) 
     → IsRunning c (longer p row)
 running_row c p row o place e run pending =
     let nodes : only_nodes (piece_nodes c (longer p row)) ≡ only_nodes (piece_nodes c p) ++ only_nodes (last_nodes c.n_var o row) =
-    ap only_nodes (tree_nodes c p row place) ∙ map-append (λ n. n.node) (piece_nodes c p) (last_nodes c.n_var (piece_pending p) row) ∙ ap (λ o. only_nodes (piece_nodes c p) ++ only_nodes (last_nodes c.n_var o row)) e in
-    let after : piece_pending (longer p row) ≡ last_pending o row = ap (pending_from None) (late_tree p row place.tree place.early) ∙ pending-more None (tree_rows p) row ∙ ap (λ o. last_pending o row) e in
+    ap only_nodes (tree_nodes c p row place) ∙ map-append (λ n. n.node) (piece_nodes c p)
+    (last_nodes c.n_var (piece_pending p) row) ∙ ap (λ o. only_nodes (piece_nodes c p)
+    ++ only_nodes (last_nodes c.n_var o row)) e in
+    let after : piece_pending (longer p row) ≡ last_pending o row =
+    ap (pending_from None) (late_tree p row place.tree place.early) ∙ pending-more None (tree_rows p) row
+    ∙ ap (λ o. last_pending o row) e in
     record {
       run = subst (IsRun 1) (sym nodes) run;
       pending = subst (λ ns. IfSome (piece_pending (longer p row)) (IsPending ns)) (sym nodes)
@@ -149,12 +159,14 @@ pub record AreClean (c : Counts) (pieces : List Piece) : Type 0 where
 pub clean_none : (c : Counts) → AreClean c []
 clean_none c = record { sound = no_piece_sound c; running = λ k d lt. absurd (omega (arith, lt)) }
 
-clean_longer : (c : Counts) (before : List Piece) (p : Piece) (row : NumberedRow) → AreClean c (before ++ p ∷ []) → IsSoundPiece c (longer p row) → IsRunning c (longer p row) → AreClean c (before ++ longer p row ∷ [])
+clean_longer : (c : Counts) (before : List Piece) (p : Piece) (row : NumberedRow) → AreClean c (before ++ p ∷ [])
+    → IsSoundPiece c (longer p row) → IsRunning c (longer p row) → AreClean c (before ++ longer p row ∷ [])
 clean_longer c before p row h sound running =
     record { sound = sound_longer c before p row h.sound sound; running = other_last (IsRunning c) before p (longer p row) h.running running }
 
 -- a head
-clean_head : (c : Counts) (pieces : List Piece) (row : NumberedRow) → AreClean c pieces → is_head (row_words row) ≡ true → first_reason (head_tests c pieces (row_words row)) ≡ None → AreClean c (with_row c pieces row)
+clean_head : (c : Counts) (pieces : List Piece) (row : NumberedRow) → AreClean c pieces → is_head (row_words row) ≡ true
+    → first_reason (head_tests c pieces (row_words row)) ≡ None → AreClean c (with_row c pieces row)
 unfolding head_tests head_form_tests
 clean_head c pieces row h is fine =
     let words = row_words row in
@@ -204,10 +216,14 @@ clean_line c d pieces before p row Pair h e fine =
     clean_longer c before p row h (sound_pair c p row next.0 next.1 (last_sound c before p h.sound)) (running_line c p row b.within (last_of (IsRunning c) before p h.running))
 clean_line c d pieces before p row ColumnCount h e fine =
     let b = before_lines c p ColumnCount e refl in
-    clean_longer c before p row h (sound_kept c p row (none_within p (plain_lines p.head ColumnCount b.same_kind refl refl).0) (last_sound c before p h.sound)) (running_line c p row b.within (last_of (IsRunning c) before p h.running))
+    clean_longer c before p row h (sound_kept c p row (none_within p
+    (plain_lines p.head ColumnCount b.same_kind refl refl).0) (last_sound c before p h.sound))
+    (running_line c p row b.within (last_of (IsRunning c) before p h.running))
 clean_line c d pieces before p row IntervalLine h e fine =
     let b = before_lines c p IntervalLine e refl in
-    clean_longer c before p row h (sound_kept c p row (none_within p (plain_lines p.head IntervalLine b.same_kind refl refl).0) (last_sound c before p h.sound)) (running_line c p row b.within (last_of (IsRunning c) before p h.running))
+    clean_longer c before p row h (sound_kept c p row (none_within p
+    (plain_lines p.head IntervalLine b.same_kind refl refl).0) (last_sound c before p h.sound))
+    (running_line c p row b.within (last_of (IsRunning c) before p h.running))
 clean_line c d pieces before p row NodeLine h e fine =
     let i = inside_tree c p NodeLine e refl in
     clean_longer c before p row h (sound_kept c p row i.place.early (last_sound c before p h.sound)) (running_node c p row i (last_of (IsRunning c) before p h.running))

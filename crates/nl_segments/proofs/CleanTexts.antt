@@ -1,15 +1,17 @@
 -- What lines without a fault mean, that each place of the file that they say has its line, and that each expression of it is read from a piece.
-use Rattle.std.proofs.Common.{◌≡◌, ◌∙◌, ℕ, ◌+◌, ◌<◌, ◌≤◌, Bool, true, false, List, [], ◌∷◌, ◌++◌, length, refl, sym, ap, subst, arith, Option, Some, None, All, append_assoc, append-nil, zero, suc, ◌==◌, slice_set, get_or, ◌⊎◌, inl, inr}
+use Rattle.std.proofs.Common.{◌≡◌, ◌∙◌, ℕ, ◌+◌, ◌<◌, ◌≤◌, Bool, true, false, List, [], ◌∷◌, ◌++◌, length, refl, sym, ap}
+use Rattle.std.proofs.Common.{subst, arith, Option, Some, None, All, append_assoc, append-nil, zero, suc, ◌==◌}
+use Rattle.std.proofs.Common.{slice_set, get_or, ◌⊎◌, inl, inr}
 use Rattle.std.specs.Prelude.{IsSome, IsSomeAnd, Ok, ℤ, slice_get, option_map, unwrap_or}
 use Rattle.std.proofs.lemmas.Bool.{not-false, eqb-true, cond_both}
 use Rattle.std.proofs.lemmas.List.{length-append}
 use Rattle.std.proofs.lemmas.List.Elements.{All-push, All-contains, Contains-append_left, Contains-push}
-use Rattle.texts.specs.Judged.{Last, IsClean}
-use Rattle.texts.specs.Reading.{last_of as last_line, lines_of, Reads}
-use Rattle.texts.specs.Words.{without_comment}
-use Rattle.texts.proofs.FirstReasons.{none_each}
-use Rattle.texts.proofs.JudgedLemmas.{clean_keeps}
-use Rattle.texts.proofs.ReadingLemmas.{text_ends}
+use Rattle.text_base.specs.Judged.{Last, IsClean}
+use Rattle.text_base.specs.Reading.{last_of as last_line, lines_of, Reads}
+use Rattle.text_base.specs.Words.{without_comment}
+use Rattle.text_base.proofs.FirstReasons.{none_each}
+use Rattle.text_base.proofs.JudgedLemmas.{clean_keeps}
+use Rattle.text_base.proofs.ReadingLemmas.{text_ends}
 use Rattle.nl_header.specs.Head.{options_in}
 use Rattle.nl_model.specs.declared.header_counts.Counts.{Counts}
 use Rattle.nl_model.specs.FilePlaces.{HasPlace, tree_at}
@@ -33,7 +35,7 @@ use Rattle.nl_segments.proofs.PairLines.{last_of, other_last}
 use Rattle.nl_lines.proofs.PieceLemmas.{split, extended-append, longer, draft-append}
 use Rattle.nl_segments.proofs.StandingLemmas.{standing-more}
 use Rattle.std.specs.List.{Contains}
-use Rattle.nl_meaning.specs.Trees.{Tree}
+use Rattle.nl_model.specs.Trees.{Tree}
 use Rattle.nl_model.specs.declared.at.Owner.{Owner}
 use Rattle.nl_model.specs.declared.at.Owner.TheVariants.{Con, Def, Obj}
 use Rattle.nl_model.specs.Draft.{Draft, file_of}
@@ -95,11 +97,15 @@ step P s n line here h fine = by (holds_words line) (is_in_header s) refl refl
         })
 
 -- what each line without a fault keeps holds after all lines
-pub all_lines : (K : Standing → Type 0) (lines : List (List ℕ)) (last : Last) → ((s : Standing) (n : ℕ) (line : List ℕ) → 0 < n → n ≤ length lines → K s → line_refusal s line ≡ None → K (after s n line))
+pub all_lines : (K : Standing → Type 0) (lines : List (List ℕ)) (last : Last)
+    → ((s : Standing) (n : ℕ) (line : List ℕ) → 0 < n → n ≤ length lines → K s → line_refusal s line ≡ None
+    → K (after s n line))
     → K (standing []) → IsClean nl_rules lines last → K (standing lines)
 all_lines K lines last each start c =
     clean_keeps nl_rules (λ ls. K (standing ls)) last lines
-    (λ before rest line is fine h. subst K (sym (standing-more before line)) (each (standing before) (length before + 1) line (omega arith) (omega (arith, ap length is, length-append before (line ∷ rest))) h fine)) start c
+    (λ before rest line is fine h. subst K (sym (standing-more before line))
+    (each (standing before) (length before + 1) line (omega arith)
+    (omega (arith, ap length is, length-append before (line ∷ rest))) h fine)) start c
 
 -- ---- the end
 
@@ -233,7 +239,8 @@ told_step d ps p (DefinitionHead i j u) e told =
       objectives = old.objectives;
       definitions = λ k x is. elim (push_cases d.definitions given x k is) [
         | inl before ↦ old.definitions k x before
-        | inr same ↦ subst (λ (x : Definition). IsSaid d.counts (ps ++ p ∷ []) (IsOfDefinition k x.index) x.tree) same (new d.counts ps p (IsOfDefinition k i) (DefinitionHead i j u) e (λ f at. at) refl)
+        | inr same ↦ subst (λ (x : Definition). IsSaid d.counts (ps ++ p ∷ []) (IsOfDefinition k x.index) x.tree) same
+            (new d.counts ps p (IsOfDefinition k i) (DefinitionHead i j u) e (λ f at. at) refl)
       ];
     })
 told_step d ps p (Suffix kind n) e told =
@@ -266,12 +273,15 @@ all_told o c before (p ∷ rest) h =
 
 none_wanted : (ns : List Placed) (q : Option Pending) → is_nothing (tree_awaits ns q) ≡ true → awaited (only_nodes ns) ≡ 0
 none_wanted ns (Some q) e = absurd cc
-none_wanted ns None e = cond_both (awaited (only_nodes ns) == 0) Nothing NodeLine (λ a. is_nothing a ≡ true → awaited (only_nodes ns) ≡ 0) (λ s f. eqb-true (awaited (only_nodes ns)) 0 s) (λ s f. absurd cc) e
+none_wanted ns None e = cond_both (awaited (only_nodes ns) == 0) Nothing NodeLine
+    (λ a. is_nothing a ≡ true → awaited (only_nodes ns) ≡ 0) (λ s f. eqb-true (awaited (only_nodes ns)) 0 s)
+    (λ s f. absurd cc) e
 
 pub nothing_wanted : (c : Counts) (p : Piece) → has_tree p.head ≡ true → is_complete c p ≡ true → awaited (only_nodes (piece_nodes c p)) ≡ 0
 nothing_wanted c p t whole = none_wanted (piece_nodes c p) (piece_pending p) (tree_done c p t whole)
 
-found : (P : ℕ → Type 0) (s : Standing) (f : File) (owner : Owner) (begins : Head → Type 0) (t : Tree) → IsWholeText P s → IsSaid (counts_of s) s.pieces begins t → ((h : Head) → begins h → BeginsTree f owner h) → HasPiece s f owner t
+found : (P : ℕ → Type 0) (s : Standing) (f : File) (owner : Owner) (begins : Head → Type 0) (t : Tree) → IsWholeText P s
+    → IsSaid (counts_of s) s.pieces begins t → ((h : Head) → begins h → BeginsTree f owner h) → HasPiece s f owner t
 found P s f owner begins t w said is =
     let c = counts_of s in
     let whole = All-contains (λ q. is_complete c q ≡ true) s.pieces said.piece w.complete said.among in

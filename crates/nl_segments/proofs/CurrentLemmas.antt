@@ -12,7 +12,7 @@ use Rattle.nl_model.specs.declared.node.Node.{Node}
 use Rattle.nl_model.specs.declared.node.Node.TheVariants.{Op}
 use Rattle.exact_numbers.specs.Numbers.{whole_of}
 use Rattle.nl_lines.specs.Rows.{NumberedRow, row_words}
-use Rattle.texts.specs.Words.{word_at}
+use Rattle.text_base.specs.Words.{word_at}
 use Rattle.nl_lines.specs.declared.pending.Pending.{Pending}
 use Rattle.nl_lines.specs.Nodes.{Placed, node_in, opcode_in, nodes_from, pending_from, only_nodes}
 use Rattle.nl_lines.specs.NodeRows.{IsRow}
@@ -74,7 +74,8 @@ node_step n cur row (Counted o) none is = record {
 }
 
 -- the number of operands of the opcode that awaits it
-pub count_step : (n : ℕ) (cur : Current) (row : NumberedRow) (q : Pending) (k : ℕ) → cur.pending ≡ Some q → whole_of (word_at (row_words row) 0) ≡ Some k → IsRowStep n cur row (Whole (Op q.opcode k)) q.line
+pub count_step : (n : ℕ) (cur : Current) (row : NumberedRow) (q : Pending) (k : ℕ) → cur.pending ≡ Some q
+    → whole_of (word_at (row_words row) 0) ≡ Some k → IsRowStep n cur row (Whole (Op q.opcode k)) q.line
 count_step n cur row q k some is = record {
   nodes = ap (λ o. last_nodes n o row) some ∙ ap (λ (o : Option ℕ). (let y : Placed = record { node = Op q.opcode (unwrap_or o 0); line = q.line } in y) ∷ []) is;
   pending = sym (ap (λ o. last_pending o row) some);
@@ -93,7 +94,8 @@ row_fields cur line (Whole n) = (refl, refl, refl)
 row_fields cur line (Counted o) = (refl, refl, refl)
 
 -- a row of the expression changes nodes and the pending opcode alone
-pub with_row : (c : Counts) (p : Piece) (cur : Current) (row : NumberedRow) (r : NodeRow) (line : ℕ) → IsCurrent c p cur → has_tree p.head ≡ true → line_count c p.head ≤ length p.rows → IsRowStep c.n_var cur row r line
+pub with_row : (c : Counts) (p : Piece) (cur : Current) (row : NumberedRow) (r : NodeRow) (line : ℕ) → IsCurrent c p cur
+    → has_tree p.head ≡ true → line_count c p.head ≤ length p.rows → IsRowStep c.n_var cur row r line
     → IsCurrent c (longer p row) (with_node_row cur line r)
 with_row c p cur row r line h tree late step =
     let same = row_fields cur line r in

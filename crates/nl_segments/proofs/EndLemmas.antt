@@ -1,12 +1,14 @@
 -- What is missing at the end, by what the reader of the body holds.
-use Rattle.std.proofs.Common.{◌≡◌, ◌∙◌, ℕ, zero, suc, ◌+◌, ◌<◌, ◌≤◌, Bool, true, false, not, ◌&&◌, ◌==◌, List, [], ◌∷◌, length, get_or, All, nat_lt, refl, sym, ap, ap₂, subst, arith, add-one, Option, Some, None}
+use Rattle.std.proofs.Common.{◌≡◌, ◌∙◌, ℕ, zero, suc, ◌+◌, ◌<◌, ◌≤◌, Bool, true, false, not, ◌&&◌, ◌==◌, List, [], ◌∷◌}
+use Rattle.std.proofs.Common.{length, get_or, All, nat_lt, refl, sym, ap, ap₂, subst, arith, add-one, Option, Some}
+use Rattle.std.proofs.Common.{None}
 use Rattle.std.proofs.lemmas.Bool.{ltb-true, ltb-false, eqb-true, not-false, true_from_ne_false, both_ways, or_parts}
 use Rattle.std.proofs.lemmas.Bool.Decides.{nat_tests}
 use Rattle.std.proofs.lemmas.List.{get_or_past}
 use Rattle.std.proofs.lemmas.List.Sums.{sum_by-cons}
 use Rattle.std.specs.Prelude.{IsSome, is_some, drop, ◌||◌}
 use Rattle.std.specs.List.{list_all}
-use Rattle.texts.specs.Judged.{first_reason}
+use Rattle.text_base.specs.Judged.{first_reason}
 use Rattle.nl_model.specs.declared.header_counts.Counts.{Counts}
 use Rattle.nl_model.specs.Draft.{Draft, IsDraft, is_given, file_of}
 use Rattle.nl_model.specs.File.{Term, File}
@@ -25,7 +27,7 @@ use Rattle.nl_segments.specs.Held.{Body, IsHeld, IsLast, end_refusal_of}
 use Rattle.nl_segments.specs.InsideTaking.{body_awaits}
 use Rattle.nl_segments.specs.InsideEnding.{are_sums, body_end_tests, IsReady}
 use Rattle.nl_segments.proofs.CurrentLemmas.{awaits}
-use Rattle.texts.proofs.FirstReasons.{none_each}
+use Rattle.text_base.proofs.FirstReasons.{none_each}
 
 -- ---- the numbers of columns
 
@@ -57,7 +59,8 @@ none_used n j (ts ∷ rows) h le =
     let b = none_used n j rows (λ k d lt. h (suc k) d (omega (arith, lt))) le in
     rw (sum_by-cons (λ terms. uses_in terms j) ts rows) (omega arith)
 
-all_uses : (n : ℕ) (uses : List ℕ) (rows : List (List Term)) → length uses ≡ n → All (AreTermsBelow n) rows → ((j : ℕ) → j < n → get_or uses j 0 ≡ use_count rows j) → (j : ℕ) → get_or uses j 0 ≡ use_count rows j
+all_uses : (n : ℕ) (uses : List ℕ) (rows : List (List Term)) → length uses ≡ n → All (AreTermsBelow n) rows
+    → ((j : ℕ) → j < n → get_or uses j 0 ≡ use_count rows j) → (j : ℕ) → get_or uses j 0 ≡ use_count rows j
 all_uses n uses rows e low h j = by (nat_lt j n) refl
   where
     by : (t : Bool) → nat_lt j n ≡ t → get_or uses j 0 ≡ use_count rows j

@@ -5,19 +5,25 @@ use Rattle.nl_header.specs.Head.{options_in, counts_in, counts_by}
 use Rattle.exact_numbers.specs.Numbers.{whole_of, signed_of, is_dec_text, dec_from, dec_of}
 use Rattle.code_tables.specs.Opcodes.{class_of, operands_of}
 use Rattle.nl_model.specs.Kinds.{variable_kind}
-use Rattle.fractions.specs.Rational.{whole, decimal_value, over}
-use Rattle.fractions.specs.LowestLemmas.{gcd_of, steps_of_euclid}
+use Rattle.exact_numbers.specs.Rational.{whole, decimal_value, over}
+use Rattle.exact_numbers.specs.LowestLemmas.{gcd_of, steps_of_euclid}
 use Rattle.exact_numbers.specs.Values.{exponent_below, decimal_of, fits_dec}
 use Rattle.nl_lines.specs.Nodes.{dec_of_signed, node_in, opcode_in, nodes_from, pending_from}
 use Rattle.nl_lines.specs.Rows.{rows_from}
 use Rattle.nl_lines.specs.Heads.{head_of, is_in_range}
 use Rattle.nl_lines.specs.Pieces.{extended, pieces_of, last_piece, awaited_in, pair_in, interval_in}
 use Rattle.nl_lines.specs.Saying.{draft_of, place_lines}
-use Rattle.nl_lines.specs.Tests.{head_form_tests, head_tests, pair_form_tests, pair_tests, column_tests, interval_form_tests, interval_tests, node_form_tests, node_tests, operand_tests, row_tests, end_tests}
-use Rattle.nl_lines.specs.declared.fault.NlReason.TheVariants.{TooLarge, UnknownSegment, RefusedSegment, RepeatedSegment, BadHead, IndexOut, BadLine, BadNumber, ShortSegment, ExtraLine, RefusedOpcode, RefusedLeaf, Complementarity, EmptyInterval, RepeatedIndex, SosSuffix, Missing, NonzeroCount, ColumnCount}
+use Rattle.nl_lines.specs.Tests.{head_form_tests, head_tests, pair_form_tests, pair_tests, column_tests}
+use Rattle.nl_lines.specs.Tests.{interval_form_tests, interval_tests, node_form_tests, node_tests, operand_tests}
+use Rattle.nl_lines.specs.Tests.{row_tests, end_tests}
+use Rattle.nl_lines.specs.declared.fault.NlReason.TheVariants.{TooLarge, UnknownSegment, RefusedSegment}
+use Rattle.nl_lines.specs.declared.fault.NlReason.TheVariants.{RepeatedSegment, BadHead, IndexOut, BadLine, BadNumber}
+use Rattle.nl_lines.specs.declared.fault.NlReason.TheVariants.{ShortSegment, ExtraLine, RefusedOpcode, RefusedLeaf}
+use Rattle.nl_lines.specs.declared.fault.NlReason.TheVariants.{Complementarity, EmptyInterval, RepeatedIndex, SosSuffix}
+use Rattle.nl_lines.specs.declared.fault.NlReason.TheVariants.{Missing, NonzeroCount, ColumnCount}
 use Rattle.nl_lines.specs.declared.fault.NlReason.{NlReason}
 use Rattle.nl_model.specs.File.{Term}
-use Rattle.nl_meaning.specs.Trees.{Tree, number, variable, operator, more, none}
+use Rattle.nl_model.specs.Trees.{Tree, number, variable, operator, more, none}
 use Rattle.code_tables.specs.declared.class.OpClass.TheVariants.{Sum}
 use Rattle.nl_segments.specs.Grammar.{Standing, counts_of, said, standing, line_refusal, end_refusal}
 
@@ -27,7 +33,8 @@ head_lines =
 
 body_lines : List (List ℕ)
 body_lines =
-    codes "C0" ∷ codes "n0" ∷ codes "O0 0" ∷ codes "o0" ∷ codes "n1" ∷ codes "v0" ∷ codes "r" ∷ codes "1 5.5" ∷ codes "b" ∷ codes "2 0" ∷ codes "3" ∷ codes "k1" ∷ codes "1" ∷ codes "J0 2" ∷ codes "0 1" ∷ codes "1 2.5" ∷ []
+    codes "C0" ∷ codes "n0" ∷ codes "O0 0" ∷ codes "o0" ∷ codes "n1" ∷ codes "v0" ∷ codes "r" ∷ codes "1 5.5"
+    ∷ codes "b" ∷ codes "2 0" ∷ codes "3" ∷ codes "k1" ∷ codes "1" ∷ codes "J0 2" ∷ codes "0 1" ∷ codes "1 2.5" ∷ []
 
 next : List (List ℕ) → List ℕ → Option NlReason
 next before line = line_refusal (standing (head_lines ++ before)) line
@@ -87,7 +94,11 @@ lines_judged : AreJudged (
     (codes "S4 0 a", Some RepeatedSegment) ∷ (codes "S1 0 a", None) ∷ (codes "S0 0 b", None) ∷ []) ∷
     given (codes "k1" ∷ []) (
     (codes "n5", Some BadLine) ∷ (codes "2147483648", Some BadNumber) ∷ (codes "7", None) ∷ []) ∷ [])
-unfolding head_lines next rows_from standing line_refusal end_refusal row_tests head_tests head_form_tests head_of whole_of signed_of counts_in counts_by pieces_of extended last_piece awaited_in is_in_range draft_of options_in nodes_from pending_from node_in opcode_in operands_of dec_of dec_of_signed is_dec_text dec_from decimal_of fits_dec exponent_below decimal_value over gcd_of steps_of_euclid pair_in interval_in pair_form_tests pair_tests column_tests interval_form_tests interval_tests node_form_tests node_tests operand_tests end_tests variable_kind whole
+unfolding head_lines next rows_from standing line_refusal end_refusal row_tests head_tests head_form_tests head_of
+    whole_of signed_of counts_in counts_by pieces_of extended last_piece awaited_in is_in_range draft_of options_in
+    nodes_from pending_from node_in opcode_in operands_of dec_of dec_of_signed is_dec_text dec_from decimal_of fits_dec
+    exponent_below decimal_value over gcd_of steps_of_euclid pair_in interval_in pair_form_tests pair_tests column_tests
+    interval_form_tests interval_tests node_form_tests node_tests operand_tests end_tests variable_kind whole
 lines_judged = refl
 
 -- after the header and these lines the end is judged so
@@ -100,7 +111,11 @@ ends_judged : AreEnded (
     (codes "C0" ∷ [], Some ShortSegment) ∷
     (codes "O0 0" ∷ codes "n1" ∷ codes "r" ∷ codes "3" ∷ codes "b" ∷ codes "3" ∷ codes "3" ∷ [], Some NonzeroCount) ∷
     (codes "O0 0" ∷ codes "n1" ∷ codes "r" ∷ codes "3" ∷ codes "b" ∷ codes "3" ∷ codes "3" ∷ codes "J0 2" ∷ codes "0 1" ∷ codes "1 1" ∷ codes "k1" ∷ codes "2" ∷ [], Some ColumnCount) ∷ [])
-unfolding head_lines body_lines next rows_from standing line_refusal end_refusal row_tests head_tests head_form_tests head_of whole_of signed_of counts_in counts_by pieces_of extended last_piece awaited_in is_in_range draft_of options_in nodes_from pending_from node_in opcode_in operands_of dec_of dec_of_signed is_dec_text dec_from decimal_of fits_dec exponent_below decimal_value over gcd_of steps_of_euclid pair_in interval_in pair_form_tests pair_tests column_tests interval_form_tests interval_tests node_form_tests node_tests operand_tests end_tests variable_kind whole
+unfolding head_lines body_lines next rows_from standing line_refusal end_refusal row_tests head_tests head_form_tests
+    head_of whole_of signed_of counts_in counts_by pieces_of extended last_piece awaited_in is_in_range draft_of
+    options_in nodes_from pending_from node_in opcode_in operands_of dec_of dec_of_signed is_dec_text dec_from decimal_of
+    fits_dec exponent_below decimal_value over gcd_of steps_of_euclid pair_in interval_in pair_form_tests pair_tests
+    column_tests interval_form_tests interval_tests node_form_tests node_tests operand_tests end_tests variable_kind whole
 ends_judged = refl
 
 -- ---- what a text says
@@ -125,5 +140,10 @@ record IsSaid : Type 0 where
       }
 
 all_said : IsSaid
-unfolding told head_lines body_lines next rows_from standing line_refusal end_refusal row_tests head_tests head_form_tests head_of whole_of signed_of counts_in counts_by pieces_of extended last_piece awaited_in is_in_range draft_of options_in nodes_from pending_from node_in opcode_in operands_of dec_of dec_of_signed is_dec_text dec_from decimal_of fits_dec exponent_below decimal_value over gcd_of steps_of_euclid pair_in interval_in pair_form_tests pair_tests column_tests interval_form_tests interval_tests node_form_tests node_tests operand_tests end_tests variable_kind whole place_lines class_of
+unfolding told head_lines body_lines next rows_from standing line_refusal end_refusal row_tests head_tests
+    head_form_tests head_of whole_of signed_of counts_in counts_by pieces_of extended last_piece awaited_in is_in_range
+    draft_of options_in nodes_from pending_from node_in opcode_in operands_of dec_of dec_of_signed is_dec_text dec_from
+    decimal_of fits_dec exponent_below decimal_value over gcd_of steps_of_euclid pair_in interval_in pair_form_tests
+    pair_tests column_tests interval_form_tests interval_tests node_form_tests node_tests operand_tests end_tests
+    variable_kind whole place_lines class_of
 all_said = record { terms = refl; bodies = refl; objectives = refl; bounds = refl; places = refl }

@@ -81,7 +81,8 @@ said_begun d (Suffix k (suc n)) name line =
     by_complete d _ (new_piece (Suffix k (suc n)) name line) false (whole_at_once d.counts (Suffix k (suc n)) name line ∙ some_left n)
     ∙ ap (λ b. if b then record d { suffixes = d.suffixes ++ record { kind = k; name = name; values = [] } ∷ [] } else d) (sym (some_are n))
 
-pub draft_begun : (o : List ℤ) (c : Counts) (pieces : List Piece) (head : Head) (name : List ℕ) (line : ℕ) → draft_of o c (pieces ++ new_piece head name line ∷ []) ≡ begun_draft (draft_of o c pieces) head name
+pub draft_begun : (o : List ℤ) (c : Counts) (pieces : List Piece) (head : Head) (name : List ℕ) (line : ℕ)
+    → draft_of o c (pieces ++ new_piece head name line ∷ []) ≡ begun_draft (draft_of o c pieces) head name
 draft_begun o c pieces head name line = draft-append o c pieces (new_piece head name line) ∙ said_begun (draft_of o c pieces) head name line
 
 -- terms of constraints stay
@@ -99,9 +100,13 @@ nodes_begun c pieces head name line =
     omega (arith, few, more)
 
 pub pairs_begun : (counts : Head → Bool) (pieces : List Piece) (head : Head) (name : List ℕ) (line : ℕ) → pair_total counts pieces ≡ pair_total counts (pieces ++ new_piece head name line ∷ [])
-pairs_begun counts pieces head name line = by (counts head) (pairs_with counts pieces (new_piece head name line) ∙ ap (λ ts. pair_total counts pieces + (if counts head then length ts else 0)) (no_pairs head name line))
+pairs_begun counts pieces head name line = by (counts head)
+    (pairs_with counts pieces (new_piece head name line) ∙ ap
+    (λ ts. pair_total counts pieces + (if counts head then length ts else 0)) (no_pairs head name line))
   where
-    by : (t : Bool) → pair_total counts (pieces ++ new_piece head name line ∷ []) ≡ pair_total counts pieces + (if t then 0 else 0) → pair_total counts pieces ≡ pair_total counts (pieces ++ new_piece head name line ∷ [])
+    by : (t : Bool) → pair_total counts (pieces ++ new_piece head name line ∷ [])
+        ≡ pair_total counts pieces + (if t then 0 else 0) → pair_total counts pieces
+        ≡ pair_total counts (pieces ++ new_piece head name line ∷ [])
     by true e = omega (arith, e)
     by false e = omega (arith, e)
 

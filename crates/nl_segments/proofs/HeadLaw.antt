@@ -1,8 +1,10 @@
 -- What is held before any row and with a head more, which segments came, the name in a head, and what is wrong with a head by what is held.
-use Rattle.std.proofs.Common.{◌≡◌, ◌∙◌, ℕ, zero, suc, ◌*◌, ◌≤◌, true, false, List, [], ◌∷◌, length, replicate, refl, sym, ap, subst, arith, Option, Some, None, nat_lt, ◌==◌, Bool, ◌&&◌, ◌||◌, ◌++◌, ap₂, ◌<◌, get_or}
+use Rattle.std.proofs.Common.{◌≡◌, ◌∙◌, ℕ, zero, suc, ◌*◌, ◌≤◌, true, false, List, [], ◌∷◌, length, replicate, refl}
+use Rattle.std.proofs.Common.{sym, ap, subst, arith, Option, Some, None, nat_lt, ◌==◌, Bool, ◌&&◌, ◌||◌, ◌++◌, ap₂, ◌<◌}
+use Rattle.std.proofs.Common.{get_or}
 use Rattle.std.specs.Prelude.{ℤ, not, if◌then◌else◌, ◌+◌, nat_le, option_map, option_and_then, IfSome, All, is_some, Ok}
 use Rattle.std.proofs.lemmas.List.{length-replicate, get_or-replicate, length-append, length-set}
-use Rattle.texts.specs.Judged.{first_reason}
+use Rattle.text_base.specs.Judged.{first_reason}
 use Rattle.nl_model.specs.declared.header_counts.Counts.{Counts}
 use Rattle.nl_model.specs.Draft.{Draft, empty_draft}
 use Rattle.nl_header.specs.Head.{options_in, counts_in}
@@ -10,12 +12,16 @@ use Rattle.nl_lines.specs.declared.awaited.Awaited.{Awaited}
 use Rattle.nl_lines.specs.declared.awaited.Awaited.TheVariants.{Nothing}
 use Rattle.nl_lines.specs.declared.fault.NlReason.TheVariants.{ExtraLine, ShortSegment}
 use Rattle.nl_lines.specs.declared.head.Head.{Head}
-use Rattle.nl_lines.specs.Heads.{is_head, head_of, name_in, numbered_head, of_two_numbers, counted_head, bare_head, definition_head, of_columns, suffix_head, with_sense, letter_of, own_number, number_at, is_in_range, of_kind}
+use Rattle.nl_lines.specs.Heads.{is_head, head_of, name_in, numbered_head, of_two_numbers, counted_head, bare_head}
+use Rattle.nl_lines.specs.Heads.{definition_head, of_columns, suffix_head, with_sense, letter_of, own_number, number_at}
+use Rattle.nl_lines.specs.Heads.{is_in_range, of_kind}
 use Rattle.nl_lines.specs.Pieces.{Piece, last_piece, is_nothing, awaited_of, is_complete, has_tree, line_count, pair_count, with_row}
 use Rattle.nl_lines.specs.Saying.{empty_lines, draft_of, place_lines}
 use Rattle.nl_lines.specs.SeenSegments.{letters, mark_of, most_indices, no_segments, Segments, with_segment, IsSeenIn}
 use Rattle.nl_lines.proofs.SeenLemmas.{mark_few, marked}
-use Rattle.nl_lines.specs.Tests.{index_limit, awaited_tests, line_tests, row_tests, is_suffix, is_same_head, is_same_piece, head_form_tests, is_linear, is_repeated, has_index, formed_head_tests, head_tests}
+use Rattle.nl_lines.specs.Tests.{index_limit, awaited_tests, line_tests, row_tests, is_suffix, is_same_head}
+use Rattle.nl_lines.specs.Tests.{is_same_piece, head_form_tests, is_linear, is_repeated, has_index, formed_head_tests}
+use Rattle.nl_lines.specs.Tests.{head_tests}
 use Rattle.nl_segments.specs.Grammar.{Standing, counts_of, said}
 use Rattle.nl_model.specs.UseCounts.{use_count}
 use Rattle.nl_segments.specs.Held.{Body, IsHeld, IsHeaderOf, AreSeen, AreSound, only_header, words_refusal, IsSoundPiece, IsOpen, IsLast, IsNodeLeft, HoldsSome, IsRowOf, TakesRow}
@@ -23,13 +29,13 @@ use Rattle.nl_segments.specs.InsideTaking.{body_awaits}
 use Rattle.nl_segments.proofs.EndLemmas.{last_awaits}
 use Rattle.std.specs.List.{list_any}
 use Rattle.std.proofs.lemmas.List.Folds.{list_any-append, list_any_at}
-use Rattle.texts.specs.Names.{IsName, is_name}
+use Rattle.text_base.specs.Names.{IsName, is_name}
 use Rattle.nl_lines.specs.declared.head.Head.TheVariants.{Body as BodyHead, Objective, Definition, DualGuesses, PrimalGuesses, Sides, Bounds, ColumnCounts, Terms, Slopes, Suffix}
-use Rattle.texts.specs.Words.{word_at}
+use Rattle.text_base.specs.Words.{word_at}
 use Rattle.nl_segments.proofs.HeadBegun.{new_piece, no_pairs, whole_at_once, draft_begun, terms_begun, nodes_begun, pairs_begun, count_begun, columns_begun, always}
 use Rattle.std.proofs.lemmas.Bool.{and_parts, not-false, leb-false, cond_both, false_from_ne_true, both_ways}
-use Rattle.texts.proofs.FirstReasons.{none_head, none_first, reason_before, reason_after, none_each, same_reasons}
-use Rattle.texts.proofs.NameTests.{tested_name}
+use Rattle.text_base.proofs.FirstReasons.{none_head, none_first, reason_before, reason_after, none_each, same_reasons}
+use Rattle.text_base.proofs.NameTests.{tested_name}
 use Rattle.nl_model.specs.declared.suffix.Suffix.{Suffix as SuffixValue}
 use Rattle.nl_lines.specs.declared.fault.NlReason.{NlReason}
 use Rattle.nl_segments.specs.InsideHeadSteps.{has_come, held_head_tests, formed_tests, new_head_tests, has_come_suffix, begun_current, begun_name, begun_count, begun_draft, with_begun_head}
@@ -120,7 +126,9 @@ extra_line s b words plain e h = rw plain (by (last_piece s.pieces))
   where
     by : (o : Option Piece) → first_reason (line_tests (counts_of s) (said s) s.pieces words o) ≡ Some ExtraLine
     by None = refl
-    by (Some p) = ap (λ a. first_reason (awaited_tests (counts_of s) (said s) s.pieces p words a)) (only_nothing (awaited_of (counts_of s) s.pieces) (last_awaits (counts_of s) b.draft b.name s.pieces (last_piece s.pieces) b.current refl h.last ∙ ap is_nothing e))
+    by (Some p) = ap (λ a. first_reason (awaited_tests (counts_of s) (said s) s.pieces p words a))
+        (only_nothing (awaited_of (counts_of s) s.pieces) (last_awaits (counts_of s) b.draft b.name s.pieces
+        (last_piece s.pieces) b.current refl h.last ∙ ap is_nothing e))
 
 -- ---- marks
 
@@ -228,7 +236,8 @@ pub form_fine : (c : Counts) (is_open : Bool) (seen : Segments) (suffixes : List
     → is_open ≡ false → first_reason (head_form_tests c words) ≡ None → head_of c words ≡ Some head
     → first_reason (new_head_tests c is_open seen suffixes count words) ≡ first_reason (held_head_tests c seen suffixes count (name_in words) head)
 form_fine c is_open seen suffixes count words head f e is =
-    rw f (reason_after (head_form_tests c words) (formed_tests c seen suffixes count (name_in words) (head_of c words)) e ∙ ap (λ o. first_reason (formed_tests c seen suffixes count (name_in words) o)) is)
+    rw f (reason_after (head_form_tests c words) (formed_tests c seen suffixes count (name_in words) (head_of c words))
+    e ∙ ap (λ o. first_reason (formed_tests c seen suffixes count (name_in words) o)) is)
 
 -- a head that nothing is wrong with
 pub record IsNew (c : Counts) (is_open : Bool) (seen : Segments) (suffixes : List SuffixValue) (count : ℕ) (name : List ℕ) (head : Head) : Type 0 where
@@ -301,14 +310,18 @@ same_formed s b (Some head) name h closed = by (is_in_range (counts_of s) head) 
     by true e = rw (come_repeated s b head name h closed e, h.suffixes) refl
 
 -- a piece is open where one is held
-awaits_by : (c : Counts) (pieces : List Piece) (d : Draft) (name : Option (List ℕ)) (l : Option Piece) (o : Option Current) → last_piece pieces ≡ l → IsLast c d name l o → not (is_nothing (awaited_of c pieces)) ≡ is_some o
+awaits_by : (c : Counts) (pieces : List Piece) (d : Draft) (name : Option (List ℕ)) (l : Option Piece)
+    (o : Option Current) → last_piece pieces ≡ l → IsLast c d name l o
+    → not (is_nothing (awaited_of c pieces)) ≡ is_some o
 awaits_by c pieces d name None None e h = rw e refl
 awaits_by c pieces d name None (Some cur) e h = absurd h
 awaits_by c pieces d name (Some p) None e h = rw e (ap not h)
 awaits_by c pieces d name (Some p) (Some cur) e h = rw e (ap not h.incomplete)
 
 head_reasons : (s : Standing) (words : List (List ℕ)) → is_head words ≡ true
-    → words_refusal s words ≡ first_reason ((not (is_nothing (awaited_of (counts_of s) s.pieces)), ShortSegment) ∷ (head_form_tests (counts_of s) words ++ formed_head_tests (counts_of s) s.pieces (name_in words) (head_of (counts_of s) words)))
+    → words_refusal s words ≡ first_reason ((not (is_nothing (awaited_of (counts_of s) s.pieces)), ShortSegment)
+    ∷ (head_form_tests (counts_of s) words ++ formed_head_tests (counts_of s) s.pieces (name_in words)
+    (head_of (counts_of s) words)))
 unfolding row_tests head_tests
 head_reasons s words first = rw first refl
 
@@ -327,7 +340,9 @@ same_refusal s b words h first =
         refl (λ none. same_formed s b (head_of (counts_of s) words) (name_in words) h e))
     by (Some cur) e = rw e refl
 
-pub head_refused : (b : Body) (is_open : Bool) (words : List (List ℕ)) (r : Option NlReason) → is_open ≡ is_some b.current → is_head words ≡ true → first_reason (new_head_tests b.draft.counts is_open b.seen b.draft.suffixes b.suffixes words) ≡ r
+pub head_refused : (b : Body) (is_open : Bool) (words : List (List ℕ)) (r : Option NlReason)
+    → is_open ≡ is_some b.current → is_head words ≡ true → first_reason
+    (new_head_tests b.draft.counts is_open b.seen b.draft.suffixes b.suffixes words) ≡ r
     → (s : Standing) → IsHeld s b → words_refusal s words ≡ r
 head_refused b is_open words r e first fault s h =
     same_refusal s b words h first ∙ ap (λ o. first_reason (new_head_tests b.draft.counts o b.seen b.draft.suffixes b.suffixes words)) (sym e) ∙ fault
@@ -348,7 +363,8 @@ sound_piece c head name line range =
       pairs = rw (none, take_none (pair_count head)) refl;
     }
 
-pub sound_begun : (c : Counts) (pieces : List Piece) (head : Head) (name : List ℕ) (line : ℕ) → AreSound c pieces → All (λ q. is_complete c q ≡ true) pieces → is_in_range c head ≡ true → is_repeated pieces head name ≡ false
+pub sound_begun : (c : Counts) (pieces : List Piece) (head : Head) (name : List ℕ) (line : ℕ) → AreSound c pieces
+    → All (λ q. is_complete c q ≡ true) pieces → is_in_range c head ≡ true → is_repeated pieces head name ≡ false
     → AreSound c (pieces ++ new_piece head name line ∷ [])
 sound_begun c pieces head name line h whole range fresh = record {
   each = All-push (IsSoundPiece c) pieces (new_piece head name line) h.each (sound_piece c head name line range);
@@ -358,7 +374,9 @@ sound_begun c pieces head name line h whole range fresh = record {
 
 -- ---- the last piece
 
-opened : (c : Counts) (d : Draft) (head : Head) (name : List ℕ) (line : ℕ) → is_complete c (new_piece head name line) ≡ false → IsOpen c d (begun_name head name) (new_piece head name line) (new_current head line (line_count c head))
+opened : (c : Counts) (d : Draft) (head : Head) (name : List ℕ) (line : ℕ)
+    → is_complete c (new_piece head name line) ≡ false → IsOpen c d (begun_name head name) (new_piece head name line)
+    (new_current head line (line_count c head))
 opened c d head name line e =
     record {
       incomplete = e;
@@ -390,13 +408,16 @@ with_new s head name line = record s { pieces = s.pieces ++ new_piece head name 
 held_begun : (s : Standing) (b : Body) (head : Head) (name : List ℕ) (line : ℕ) → IsHeld s b → b.current ≡ None → is_in_range (counts_of s) head ≡ true → is_repeated s.pieces head name ≡ false
     → IsHeld (with_new s head name line) (with_begun_head b head name line)
 held_begun s b head name line h closed range fresh =
-    let draft : begun_draft b.draft head name ≡ said (with_new s head name line) = ap (λ d. begun_draft d head name) h.draft ∙ sym (draft_begun (options_in s.header) (counts_of s) s.pieces head name line) in
+    let draft : begun_draft b.draft head name ≡ said (with_new s head name line) =
+    ap (λ d. begun_draft d head name) h.draft ∙ sym (draft_begun (options_in s.header) (counts_of s) s.pieces head
+    name line) in
     record {
       body = h.body;
       sound = sound_begun (counts_of s) s.pieces head name line h.sound (closed_complete s b h closed) range fresh;
       draft = draft;
       counts = ap (λ (d : Draft). d.counts) draft ∙ draft_counts (options_in s.header) (counts_of s) (s.pieces ++ new_piece head name line ∷ []);
-      last = subst (λ c. IsLast (counts_of s) (begun_draft b.draft head name) (begun_name head name) (last_piece (s.pieces ++ new_piece head name line ∷ [])) (begun_current c head line)) (sym h.counts)
+      last = subst (λ c. IsLast (counts_of s) (begun_draft b.draft head name) (begun_name head name)
+          (last_piece (s.pieces ++ new_piece head name line ∷ [])) (begun_current c head line)) (sym h.counts)
           (last_begun (counts_of s) (begun_draft b.draft head name) s.pieces head name line);
       marks = marks_begun (counts_of s) (length b.marks) s.pieces head name line;
       room = λ k within. subst (λ n. index_limit (counts_of s) k ≤ n) (sym (length-replicate (length b.marks) false)) (h.room k within);
@@ -436,7 +457,8 @@ IsNewOf b words head = IsNew b.draft.counts (is_some b.current) b.seen b.draft.s
 pub new_of : (b : Body) (is_open : Bool) (words : List (List ℕ)) (head : Head) → is_open ≡ is_some b.current → head_of b.draft.counts words ≡ Some head
     → first_reason (new_head_tests b.draft.counts is_open b.seen b.draft.suffixes b.suffixes words) ≡ None → IsNewOf b words head
 new_of b is_open words head e is none =
-    is_new b.draft.counts (is_some b.current) b.seen b.draft.suffixes b.suffixes words head is (ap (λ o. first_reason (new_head_tests b.draft.counts o b.seen b.draft.suffixes b.suffixes words)) (sym e) ∙ none)
+    is_new b.draft.counts (is_some b.current) b.seen b.draft.suffixes b.suffixes words head is
+    (ap (λ o. first_reason (new_head_tests b.draft.counts o b.seen b.draft.suffixes b.suffixes words)) (sym e) ∙ none)
 
 pub marks_there : (b : Body) (head : Head) → HoldsSome b → is_in_range b.draft.counts head ≡ true → IsSeenIn b.seen head
 marks_there b head h range = (h.1.seen head (ap (λ c. is_in_range c head) (sym h.1.counts) ∙ range)).0

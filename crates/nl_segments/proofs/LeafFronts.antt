@@ -1,6 +1,6 @@
 -- The lines of a product, and of the number 0, at the front of a text.
 use Rattle.std.proofs.Common.{◌≡◌, ◌∙◌, ◌≤◌, ℕ, List, [], ◌∷◌, get_or, length, refl, ap, ap₂, sym, subst, arith, pos, Some}
-use Rattle.fractions.specs.Rational.{zero_ℚ}
+use Rattle.exact_numbers.specs.Rational.{zero_ℚ}
 use Rattle.exact_numbers.specs.declared.dec.Dec.{Dec}
 use Rattle.exact_numbers.specs.Numbers.{dec_of, whole_of}
 use Rattle.exact_numbers.specs.Values.{dec_value}
@@ -36,7 +36,8 @@ zero_number z more e =
     (λ word is. (record { one = refl; first = refl }, is))
 
 -- a text that begins with three bytes
-begins_with : (P : List ℕ → Type 0) (x y z : ℕ) → ((more : List ℕ) → P (x ∷ y ∷ z ∷ more)) → (text : List ℕ) → 3 ≤ length text → get_or text 0 0 ≡ x → get_or text 1 0 ≡ y → get_or text 2 0 ≡ z → P text
+begins_with : (P : List ℕ → Type 0) (x y z : ℕ) → ((more : List ℕ) → P (x ∷ y ∷ z ∷ more)) → (text : List ℕ)
+    → 3 ≤ length text → get_or text 0 0 ≡ x → get_or text 1 0 ≡ y → get_or text 2 0 ≡ z → P text
 begins_with P x y z is [] some p q r = absurd (omega (arith, some))
 begins_with P x y z is (a ∷ []) some p q r = absurd (omega (arith, some))
 begins_with P x y z is (a ∷ b ∷ []) some p q r = absurd (omega (arith, some))
@@ -47,5 +48,6 @@ begins_with P x y z is (a ∷ b ∷ c ∷ more) some p q r =
 pub product_line : (text : List ℕ) → 3 ≤ length text → get_or text 0 0 ≡ 111 → get_or text 1 0 ≡ 50 → get_or text 2 0 ≡ 10 → IsFirstRow text 3 (λ words. IsLeafRow words (Opcode 2))
 product_line text some o two ends = begins_with (λ bs. IsFirstRow bs 3 (λ words. IsLeafRow words (Opcode 2))) 111 50 10 product text some o two ends
 
-pub zero_line : (z : Dec) (text : List ℕ) → dec_value z ≡ zero_ℚ → 3 ≤ length text → get_or text 0 0 ≡ 110 → get_or text 1 0 ≡ 48 → get_or text 2 0 ≡ 10 → IsFirstRow text 3 (λ words. IsLeafRow words (Number z))
+pub zero_line : (z : Dec) (text : List ℕ) → dec_value z ≡ zero_ℚ → 3 ≤ length text → get_or text 0 0 ≡ 110
+    → get_or text 1 0 ≡ 48 → get_or text 2 0 ≡ 10 → IsFirstRow text 3 (λ words. IsLeafRow words (Number z))
 zero_line z text e some n nought ends = begins_with (λ bs. IsFirstRow bs 3 (λ words. IsLeafRow words (Number z))) 110 48 10 (λ more. zero_number z more e) text some n nought ends

@@ -5,7 +5,7 @@ use Rattle.std.proofs.lemmas.Bool.{lt-ltb, ltb-true, ltb-false}
 use Rattle.std.proofs.lemmas.Bool.Decides.{nat_tests}
 use Rattle.linear_program.specs.declared.interval.Interval.{Interval}
 use Rattle.linear_program.specs.declared.kind.Kind.TheVariants.{Binary, Continuous, Integer}
-use Rattle.texts.specs.declared.grammar.Front.{Front}
+use Rattle.text_base.specs.declared.grammar.Front.{Front}
 use Rattle.nl_model.specs.declared.header_counts.Counts.{Counts}
 use Rattle.nl_model.specs.Draft.{Draft}
 use Rattle.nl_model.specs.declared.kinds.Run.{Run}
@@ -86,7 +86,9 @@ binary_at c first end is stop j =
     let one = later (run_of (c.nlvb - c.nlvbi) Continuous) two (c.nlvbi + (rows + (c.nlvci + (objectives + (c.nlvoi + (size + 0)))))) n refl at_two in
     let start : (c.nlvb - c.nlvbi) + (c.nlvbi + (rows + (c.nlvci + (objectives + (c.nlvoi + (size + 0)))))) ≡ first = omega (arith, is) in
     let over : (c.nlvb - c.nlvbi) + (c.nlvbi + (rows + (c.nlvci + (objectives + (c.nlvoi + (size + 0)))))) + n ≡ end = omega (arith, is, stop) in
-    ap is_binary (variable_kind_by_runs c j) ∙ one j ∙ ap (λ (k : ℕ). nat_le k j && nat_lt j ((c.nlvb - c.nlvbi) + (c.nlvbi + (rows + (c.nlvci + (objectives + (c.nlvoi + (size + 0)))))) + n)) start ∙ ap (λ (k : ℕ). nat_le first j && nat_lt j k) over
+    ap is_binary (variable_kind_by_runs c j) ∙ one j ∙ ap (λ (k : ℕ). nat_le k j
+    && nat_lt j ((c.nlvb - c.nlvbi) + (c.nlvbi + (rows + (c.nlvci + (objectives + (c.nlvoi + (size + 0)))))) + n))
+    start ∙ ap (λ (k : ℕ). nat_le first j && nat_lt j k) over
 
 -- ---- after so many lines
 
@@ -109,17 +111,22 @@ module _ (kind : Awaited) (left : ℕ) (b : Body) (cur : Current) (n : ℕ) (d :
       subst (λ o. IfSome o (λ c. unless_complete (less_lines cur (n + 1)) ≡ unless_complete (less_line c))) (sym still_held) (ap (λ (k : ℕ). unless_complete (record cur { left = k })) once)
 
 -- where such a line is awaited
-pub awaits_lines : (kind : Awaited) (left : ℕ) (b : Body) (cur : Current) → is_line_kind kind ≡ true → b.current ≡ Some cur → IsAwaiting kind b → HoldsSome b → left ≡ cur.left → AwaitsLines kind left b cur
+pub awaits_lines : (kind : Awaited) (left : ℕ) (b : Body) (cur : Current) → is_line_kind kind ≡ true
+    → b.current ≡ Some cur → IsAwaiting kind b → HoldsSome b → left ≡ cur.left → AwaitsLines kind left b cur
 awaits_lines kind left b cur line is a h same =
     let o = opened h.0 b cur is h.1 in
     let e = early_line (counts_of h.0) o.piece cur kind o.is_open.current (awaits_as b cur kind is a) line in
     record { current = is; same_kind = ap line_kind o.is_open.current.head ∙ e.same_kind; same_left = sym same; some = omega (arith, same, e.left) }
 
-pub awaits_intervals : (left : ℕ) (of_constraint : Bool) (b : Body) (cur : Current) → b.current ≡ Some cur → IsAwaiting IntervalLine b → HoldsSome b → left ≡ cur.left → of_constraint ≡ is_sides cur.head → AwaitsIntervals b.draft of_constraint left b cur
+pub awaits_intervals : (left : ℕ) (of_constraint : Bool) (b : Body) (cur : Current) → b.current ≡ Some cur
+    → IsAwaiting IntervalLine b → HoldsSome b → left ≡ cur.left → of_constraint ≡ is_sides cur.head
+    → AwaitsIntervals b.draft of_constraint left b cur
 awaits_intervals left of_constraint b cur is a h same sides = record { draft = refl; same = sym sides; awaits = awaits_lines IntervalLine left b cur refl is a h same }
 
 -- before any line
-none_yet : (kind : Awaited) (left : ℕ) (b : Body) (cur : Current) (number : ℕ) (piece : List ℕ) → is_nothing kind ≡ false → AwaitsLines kind left b cur → TakesLines b piece number (record { len = 0; lines = 0 }) (with_lines b b.draft b.columns cur 0)
+none_yet : (kind : Awaited) (left : ℕ) (b : Body) (cur : Current) (number : ℕ) (piece : List ℕ)
+    → is_nothing kind ≡ false → AwaitsLines kind left b cur → TakesLines b piece number (record { len = 0; lines = 0 })
+    (with_lines b b.draft b.columns cur 0)
 none_yet kind left b cur number piece some_kind a =
     let none : cur.left - 0 ≡ cur.left = omega arith in
     let current = still_held kind left b cur 0 b.draft b.columns some_kind a a.some ∙ ap (λ (k : ℕ). Some (record cur { left = k })) none ∙ sym a.current in
@@ -133,7 +140,9 @@ pub no_interval : (d : Draft) (of_constraint : Bool) (left : ℕ) (b : Body) (cu
 no_interval d of_constraint left b cur number piece is =
     subst (λ x. TakesLines b piece number (record { len = 0; lines = 0 }) (with_lines b x b.columns cur 0)) is.draft (none_yet IntervalLine left b cur number piece refl is.awaits)
 
-pub interval_taken : (first d d_new : Draft) (of_constraint : Bool) (left : ℕ) (b : Body) (cur : Current) (number : ℕ) (piece : List ℕ) (front : Front) (len : ℕ) (i : Interval) → AwaitsIntervals first of_constraint left b cur → front.lines < left
+pub interval_taken : (first d d_new : Draft) (of_constraint : Bool) (left : ℕ) (b : Body) (cur : Current) (number : ℕ)
+    (piece : List ℕ) (front : Front) (len : ℕ) (i : Interval) → AwaitsIntervals first of_constraint left b cur
+    → front.lines < left
     → TakesLines b piece number front (with_lines b d b.columns cur front.lines) → IsFirstRow (drop front.len piece) len (λ words. IsIntervalRow words i)
     → is_refused i (not of_constraint && is_binary (variable_kind d.counts (d.counts.n_var - (left - front.lines)))) ≡ false → d_new ≡ with_interval d of_constraint i
     → TakesLines b piece number (record { len = front.len + len; lines = front.lines + 1 }) (with_lines b d_new b.columns cur (front.lines + 1))
@@ -169,11 +178,14 @@ same_counts d false i = refl
 
 -- ---- the number of a column more
 
-pub no_column : (columns : List ℕ) (left : ℕ) (b : Body) (cur : Current) (number : ℕ) (piece : List ℕ) → AwaitsColumns columns left b cur → TakesLines b piece number (record { len = 0; lines = 0 }) (with_lines b b.draft columns cur 0)
+pub no_column : (columns : List ℕ) (left : ℕ) (b : Body) (cur : Current) (number : ℕ) (piece : List ℕ)
+    → AwaitsColumns columns left b cur → TakesLines b piece number (record { len = 0; lines = 0 })
+    (with_lines b b.draft columns cur 0)
 no_column columns left b cur number piece is =
     subst (λ x. TakesLines b piece number (record { len = 0; lines = 0 }) (with_lines b b.draft x cur 0)) is.columns_are (none_yet ColumnCount left b cur number piece refl is.awaits)
 
-pub column_taken : (first columns columns_new : List ℕ) (left : ℕ) (b : Body) (cur : Current) (number : ℕ) (piece : List ℕ) (front : Front) (len k : ℕ) → AwaitsColumns first left b cur → front.lines < left
+pub column_taken : (first columns columns_new : List ℕ) (left : ℕ) (b : Body) (cur : Current) (number : ℕ)
+    (piece : List ℕ) (front : Front) (len k : ℕ) → AwaitsColumns first left b cur → front.lines < left
     → TakesLines b piece number front (with_lines b b.draft columns cur front.lines) → IsFirstRow (drop front.len piece) len (λ words. IsWholeRow words k) → columns_new ≡ columns ++ k ∷ []
     → TakesLines b piece number (record { len = front.len + len; lines = front.lines + 1 }) (with_lines b b.draft columns_new cur (front.lines + 1))
 column_taken first columns columns_new left b cur number piece front len k is lt h row given =
@@ -182,5 +194,7 @@ column_taken first columns columns_new left b cur number piece front len k is lt
     let new = with_lines b b.draft columns_new cur (n + 1) in
     goes_on b old new piece (drop front.len piece) number front (record { len = len; lines = 1 }) h refl
     (row_first old new (drop front.len piece) (number + n) len (λ words. IsWholeRow words k) row (λ words r. (0, r.one))
-    (λ words r. column_step old words (number + n) k columns_new (unless_complete (less_lines cur (n + 1))) (still_awaiting ColumnCount left b cur n b.draft columns refl is.awaits lt) (whole_plain words k r) (column_fine words k r) r.says given
+    (λ words r. column_step old words (number + n) k columns_new (unless_complete (less_lines cur (n + 1)))
+    (still_awaiting ColumnCount left b cur n b.draft columns refl is.awaits lt) (whole_plain words k r)
+    (column_fine words k r) r.says given
     (next_current ColumnCount left b cur n b.draft columns refl is.awaits lt)))

@@ -1,11 +1,13 @@
 -- Each node, term and head has its line in what pieces say.
-use Rattle.std.proofs.Common.{◌≡◌, ◌∙◌, ℕ, zero, suc, ◌<◌, ◌≤◌, Bool, true, false, not, ◌&&◌, ◌||◌, ◌==◌, List, [], ◌∷◌, ◌++◌, length, take, replicate, get_or, refl, sym, ap, subst, arith, nat_lt, Option, Some, None, is_some, append_assoc, drop, map}
+use Rattle.std.proofs.Common.{◌≡◌, ◌∙◌, ℕ, zero, suc, ◌<◌, ◌≤◌, Bool, true, false, not, ◌&&◌, ◌||◌, ◌==◌, List, [], ◌∷◌}
+use Rattle.std.proofs.Common.{◌++◌, length, take, replicate, get_or, refl, sym, ap, subst, arith, nat_lt, Option, Some}
+use Rattle.std.proofs.Common.{None, is_some, append_assoc, drop, map}
 use Rattle.std.specs.Prelude.{if◌then◌else◌, ℤ, IfSome, IsSome, IsSomeAnd, slice_get, option_map, option_and_then, All, AllPairs}
 use Rattle.std.specs.Option.{option_map_or, option_or}
 use Rattle.std.specs.List.{list_any, cons_option}
 use Rattle.std.proofs.lemmas.List.{length-map, length-replicate, append-nil}
 use Rattle.std.proofs.lemmas.Bool.{ltb-true, ltb-false, cond_both, both_ways, and_right}
-use Rattle.nl_meaning.specs.Trees.{Tree, tree_size}
+use Rattle.nl_model.specs.Trees.{Tree, tree_size}
 use Rattle.nl_model.specs.declared.header_counts.Counts.{Counts}
 use Rattle.nl_model.specs.Draft.{Draft, file_of, those_given}
 use Rattle.nl_model.specs.File.{Term}
@@ -83,7 +85,8 @@ pub record AreRowLines (P : ℕ → Type 0) (p : Piece) : Type 0 where
   pub line : P p.line
   pub rows : All (λ r. P r.line) p.rows
 
-lines_from : (P : ℕ → Type 0) (n : ℕ) (pending : Option Pending) (rows : List NumberedRow) → IfSome pending (λ q. P q.line) → All (λ r. P r.line) rows → All P (map (λ n. n.line) (nodes_from n pending rows))
+lines_from : (P : ℕ → Type 0) (n : ℕ) (pending : Option Pending) (rows : List NumberedRow)
+    → IfSome pending (λ q. P q.line) → All (λ r. P r.line) rows → All P (map (λ n. n.line) (nodes_from n pending rows))
 unfolding nodes_from
 lines_from P n None [] h rows = λ k d lt. absurd (omega (arith, lt))
 lines_from P n (Some q) [] h rows = λ k d lt. absurd (omega (arith, lt))
@@ -98,7 +101,9 @@ lines_from P n None (row ∷ more) h rows =
     next None = tt
     next (Some o) = here
 
-    by : (o : Option Node) → All P (map (λ n. n.line) (nodes_from n (pending_in row) more)) → All P (map (λ n. n.line) (cons_option (option_map (λ (m : Node). record { node = m; line = row.line }) o) (nodes_from n (pending_in row) more)))
+    by : (o : Option Node) → All P (map (λ n. n.line) (nodes_from n (pending_in row) more))
+        → All P (map (λ n. n.line) (cons_option (option_map (λ (m : Node). record { node = m; line = row.line }) o)
+        (nodes_from n (pending_in row) more)))
     by None rest = rest
     by (Some m) rest = All-cons P row.line (map (λ n. n.line) (nodes_from n (pending_in row) more)) here rest
 
@@ -139,12 +144,20 @@ some_and : (P : ℕ → Type 0) (head : Option ℕ) → IsSome head → IfSome h
 some_and P None some h = absurd cc
 some_and P (Some n) some h = h
 
-step : (P : ℕ → Type 0) (c : Counts) (d : Draft) (l : PlaceLines) (p : Piece) (h : Head) → d.counts ≡ c → p.head ≡ h → IsWhole P c p → IsUnused d h → HasOwner l h → AreLined P d l → AreLined P (said_by d p h) (more_lines c l p h)
+step : (P : ℕ → Type 0) (c : Counts) (d : Draft) (l : PlaceLines) (p : Piece) (h : Head) → d.counts ≡ c → p.head ≡ h
+    → IsWhole P c p → IsUnused d h → HasOwner l h → AreLined P d l → AreLined P (said_by d p h) (more_lines c l p h)
 step P c d l p (BodyHead i) n e w free place old =
     let size = placed_nodes (piece_nodes c p) (piece_pending p) (tree_done c p (rw e refl) w.whole) in
     rw (n, w.whole) (record {
       definitions = old.definitions;
-      constraints = with_tree_at P true (λ t. t) d.bodies d.terms l.constraints i (Some (piece_tree c p)) (with_tree_lines c p) place (λ ts o before. record { nodes = size; terms = before.terms; head = λ _. refl; lines = record { head = w.lines.line; nodes = w.lines.nodes; terms = before.lines.terms } }) old.constraints;
+      constraints = with_tree_at P true (λ t. t) d.bodies d.terms l.constraints i (Some (piece_tree c p))
+          (with_tree_lines c p) place (λ ts o before. record {
+            nodes = size;
+            terms = before.terms;
+            head = λ _. refl;
+            lines = record { head = w.lines.line; nodes = w.lines.nodes; terms = before.lines.terms };
+          })
+          old.constraints;
       objectives = old.objectives;
     })
 step P c d l p (ObjectiveHead k m) n e w free place old =
@@ -152,13 +165,16 @@ step P c d l p (ObjectiveHead k m) n e w free place old =
     rw (n, w.whole) (record {
       definitions = old.definitions;
       constraints = old.constraints;
-      objectives = with_tree_at P false (option_map (λ (o : Objective). o.tree)) d.objectives d.slopes l.objectives k (Some (record { maximise = m; tree = piece_tree c p })) (with_tree_lines c p) place
+      objectives = with_tree_at P false (option_map (λ (o : Objective). o.tree)) d.objectives d.slopes l.objectives k
+          (Some (record { maximise = m; tree = piece_tree c p })) (with_tree_lines c p) place
           (λ ts o before. record { nodes = size; terms = before.terms; head = λ _. refl; lines = record { head = w.lines.line; nodes = w.lines.nodes; terms = before.lines.terms } }) old.objectives;
     })
 step P c d l p (DefinitionHead i j u) n e w free place old =
     let size = placed_nodes (piece_nodes c p) (piece_pending p) (tree_done c p (rw e refl) w.whole) in
     rw (n, w.whole) (record {
-      definitions = defs_push P d.definitions l.definitions (record { index = i; terms = piece_pairs p; usage = u; tree = piece_tree c p }) (record { head = Some p.line; nodes = node_lines c p; terms = term_lines p }) old.definitions
+      definitions = defs_push P d.definitions l.definitions
+          (record { index = i; terms = piece_pairs p; usage = u; tree = piece_tree c p })
+          (record { head = Some p.line; nodes = node_lines c p; terms = term_lines p }) old.definitions
           (record { nodes = size; terms = pairs_lines P c p w; head = λ _. refl; lines = record { head = w.lines.line; nodes = w.lines.nodes; terms = w.lines.terms } });
       constraints = old.constraints;
       objectives = old.objectives;
@@ -167,15 +183,33 @@ step P c d l p (Terms i m) n e w free place old =
     record {
       definitions = old.definitions;
       constraints = with_row_at P true (λ t. t) d.bodies d.terms l.constraints i (get_or d.terms i [] ++ piece_pairs p) (with_term_lines p) place
-          (λ t o before. record { nodes = before.nodes; terms = rw free (pairs_lines P c p w); head = λ _. some_head o.head p.line; lines = record { head = or_line P o.head p.line before.lines.head w.lines.line; nodes = before.lines.nodes; terms = w.lines.terms } }) old.constraints;
+          (λ t o before. record {
+            nodes = before.nodes;
+            terms = rw free (pairs_lines P c p w);
+            head =
+                λ _. some_head o.head p.line;
+            lines = record {
+              head = or_line P o.head p.line before.lines.head w.lines.line;
+              nodes = before.lines.nodes;
+              terms =
+                  w.lines.terms;
+            };
+          }) old.constraints;
       objectives = old.objectives;
     }
 step P c d l p (Slopes k m) n e w free place old =
     record {
       definitions = old.definitions;
       constraints = old.constraints;
-      objectives = with_row_at P false (option_map (λ (o : Objective). o.tree)) d.objectives d.slopes l.objectives k (get_or d.slopes k [] ++ piece_pairs p) (λ o. record o { terms = term_lines p }) place
-          (λ t o before. record { nodes = before.nodes; terms = rw free (pairs_lines P c p w); head = before.head; lines = record { head = before.lines.head; nodes = before.lines.nodes; terms = w.lines.terms } }) old.objectives;
+      objectives = with_row_at P false (option_map (λ (o : Objective). o.tree)) d.objectives d.slopes l.objectives k
+          (get_or d.slopes k [] ++ piece_pairs p) (λ o. record o { terms = term_lines p }) place
+          (λ t o before. record {
+            nodes = before.nodes;
+            terms = rw free (pairs_lines P c p w);
+            head = before.head;
+            lines = record { head = before.lines.head; nodes = before.lines.nodes; terms = w.lines.terms };
+          })
+          old.objectives;
     }
 step P c d l p (Suffix a m) n e w free place old = rw (n, w.whole) (record { definitions = old.definitions; constraints = old.constraints; objectives = old.objectives })
 step P c d l p head n e w free place old = record { definitions = old.definitions; constraints = old.constraints; objectives = old.objectives }
@@ -252,7 +286,8 @@ owned P both tree ts o h = record { nodes = λ k lt. node_there P both tree ts o
 no_owner : (P : ℕ → Type 0) (both : Bool) → HasAll P both None [] None
 no_owner P both = record { nodes = λ k lt. absurd (omega (arith, lt)); terms = λ k lt. absurd (omega (arith, lt)); head = λ e. absurd (both_ways _ (and_right both false refl) e) }
 
-owner_at : {A : Type 0} (P : ℕ → Type 0) (both : Bool) (tree : Option A → Option Tree) (xs : List (Option A)) (rows : List (List Term)) (os : List OwnerLines) (i : ℕ) → tree None ≡ None → AllLined P both tree xs rows os
+owner_at : {A : Type 0} (P : ℕ → Type 0) (both : Bool) (tree : Option A → Option Tree) (xs : List (Option A))
+    (rows : List (List Term)) (os : List OwnerLines) (i : ℕ) → tree None ≡ None → AllLined P both tree xs rows os
     → HasAll P both (tree (get_or xs i None)) (get_or rows i []) (slice_get os i)
 owner_at P both tree xs rows os i e h = by (nat_lt i (length os)) refl
   where
@@ -285,7 +320,8 @@ some_tree : (o : Option Objective) → IsSome o → is_some (option_map (λ (o :
 some_tree None h = absurd cc
 some_tree (Some o) h = refl
 
-objective_head : (P : ℕ → Type 0) (xs : List (Option Objective)) (rows : List (List Term)) (os : List OwnerLines) (i : ℕ) → AllLined P false (option_map (λ (o : Objective). o.tree)) xs rows os → All IsSome xs
+objective_head : (P : ℕ → Type 0) (xs : List (Option Objective)) (rows : List (List Term)) (os : List OwnerLines)
+    (i : ℕ) → AllLined P false (option_map (λ (o : Objective). o.tree)) xs rows os → All IsSome xs
     → (is_some (option_map (λ (o : Objective). o.tree) (get_or xs i None)) || not (length (get_or rows i []) == 0)) ≡ true → IsSomeAnd (option_and_then (λ (x : OwnerLines). x.head) (slice_get os i)) P
 objective_head P xs rows os i h g has = by (nat_lt i (length xs)) refl
   where
@@ -301,7 +337,8 @@ places_there : (P : ℕ → Type 0) (d : Draft) (l : PlaceLines) → AreLined P 
 unfolding place_line
 places_there P d l h g (NodeAt (Def i) k) has = (def_at P d.definitions l.definitions i h.definitions).nodes k has
 places_there P d l h g (NodeAt (Con i) k) has = (owner_at P true (λ t. t) d.bodies d.terms l.constraints i refl h.constraints).nodes k (rw (body_in d.bodies i) at has)
-places_there P d l h g (NodeAt (Obj i) k) has = (owner_at P false (option_map (λ (o : Objective). o.tree)) d.objectives d.slopes l.objectives i refl h.objectives).nodes k (rw (given_in d.objectives i g) at has)
+places_there P d l h g (NodeAt (Obj i) k) has = (owner_at P false (option_map (λ (o : Objective). o.tree)) d.objectives
+    d.slopes l.objectives i refl h.objectives).nodes k (rw (given_in d.objectives i g) at has)
 places_there P d l h g (TermAt (Def i) k) has = (def_at P d.definitions l.definitions i h.definitions).terms k has
 places_there P d l h g (TermAt (Con i) k) has = (owner_at P true (λ t. t) d.bodies d.terms l.constraints i refl h.constraints).terms k has
 places_there P d l h g (TermAt (Obj i) k) has = (owner_at P false (option_map (λ (o : Objective). o.tree)) d.objectives d.slopes l.objectives i refl h.objectives).terms k has

@@ -1,8 +1,8 @@
 -- A row of an expression at the front of a piece.
 use Rattle.std.proofs.Common.{◌≡◌, ℕ, suc, ◌+◌, ◌<◌, ◌≤◌, ◌^◌, ◌&&◌, true, List, length, refl, arith, Option, Some, nat_le, nat_lt}
 use Rattle.std.specs.Prelude.{IfSome, IsSomeAnd, Ok}
-use Rattle.texts.specs.Judged.{Decides}
-use Rattle.texts.specs.Words.{row_of, without_comment}
+use Rattle.text_base.specs.Judged.{Decides}
+use Rattle.text_base.specs.Words.{row_of, without_comment}
 use Rattle.nl_model.specs.Draft.{Draft}
 use Rattle.nl_model.specs.declared.node.Node.TheVariants.{Op}
 use Rattle.nl_lines.specs.declared.awaited.Awaited.TheVariants.{Node as NodeLine, OperandCount}
@@ -42,7 +42,8 @@ one_word words (Number d) p = (0, p.0.one)
 one_word words (Variable i) p = (0, p.0.one)
 one_word words (Opcode o) p = (0, p.0.one)
 
-pub leaf_can : (b : Body) (piece : List ℕ) (len : ℕ) (leaf : Leaf) (r : NodeRow) (line : ℕ) → IsAwaiting NodeLine b → HoldsSome b → IsFirstRow piece len (λ words. IsLeafRow words leaf) → IsReadNext b leaf r
+pub leaf_can : (b : Body) (piece : List ℕ) (len : ℕ) (leaf : Leaf) (r : NodeRow) (line : ℕ) → IsAwaiting NodeLine b
+    → HoldsSome b → IsFirstRow piece len (λ words. IsLeafRow words leaf) → IsReadNext b leaf r
     → IsSomeAnd b.current (λ c. CanTakeRow b.draft b.places c r line)
 leaf_can b piece len leaf r line awaits held first read =
     let words = row_of (without_comment first.line) in
@@ -51,8 +52,12 @@ leaf_can b piece len leaf r line awaits held first read =
 pub leaf_few : (b : Body) (piece : List ℕ) (len : ℕ) (leaf : Leaf) (r : NodeRow) → IsFirstRow piece len (λ words. IsLeafRow words leaf) → IsReadNext b leaf r → b.nodes < 2 ^ 22
 leaf_few b piece len leaf r first read = (read (row_of (without_comment first.line)) first.row).1.few
 
-pub leaf_first : (b : Body) (piece : List ℕ) (number len : ℕ) (leaf : Leaf) (r : NodeRow) (count : ℕ) (draft : Draft) (kept : Option Current) (places : PlaceLines) → IsAwaiting NodeLine b → IsFirstRow piece len (λ words. IsLeafRow words leaf)
-    → IsReadNext b leaf r → count ≡ row_count r → IfSome b.current (λ c. places ≡ with_row_line b.places number c.head r) → IfSome b.current (λ c. IsSettled b.draft (with_node_row c number r) kept draft)
+pub leaf_first : (b : Body) (piece : List ℕ) (number len : ℕ) (leaf : Leaf) (r : NodeRow) (count : ℕ) (draft : Draft)
+    (kept : Option Current) (places : PlaceLines) → IsAwaiting NodeLine b
+    → IsFirstRow piece len (λ words. IsLeafRow words leaf)
+    → IsReadNext b leaf r → count ≡ row_count r → IfSome b.current
+    (λ c. places ≡ with_row_line b.places number c.head r)
+    → IfSome b.current (λ c. IsSettled b.draft (with_node_row c number r) kept draft)
     → TakesLines b piece number (record { len = len; lines = 1 }) (record b { draft = draft; current = kept; nodes = b.nodes + count; places = places })
 leaf_first b piece number len leaf r count draft kept places awaits first read counted lines settled =
     row_first b (record b { draft = draft; current = kept; nodes = b.nodes + count; places = places }) piece number len (λ words. IsLeafRow words leaf) first (λ words p. one_word words leaf p)
@@ -68,15 +73,20 @@ pub record AwaitsOperands (b : Body) (cur : Current) (q : Pending) : Type 0 wher
   pub waits : IfSome cur.pending (IsPending cur.nodes)
   pub held : HoldsSome b
 
-pub operand_can : (b : Body) (piece : List ℕ) (len k line : ℕ) (cur : Current) (q : Pending) → AwaitsOperands b cur q → IsFirstRow piece len (λ words. IsWholeRow words k) → (nat_lt 0 k && nat_le k (2 ^ 22)) ≡ true
+pub operand_can : (b : Body) (piece : List ℕ) (len k line : ℕ) (cur : Current) (q : Pending) → AwaitsOperands b cur q
+    → IsFirstRow piece len (λ words. IsWholeRow words k) → (nat_lt 0 k && nat_le k (2 ^ 22)) ≡ true
     → IsSomeAnd b.current (λ c. CanTakeRow b.draft b.places c (Whole (Op q.opcode k)) q.line)
 operand_can b piece len k line cur q a first few =
     let words = row_of (without_comment first.line) in
     can_take b words line q.line cur (Whole (Op q.opcode k)) a.held
     (count_read b words line cur q k a.here a.awaiting (whole_plain words k first.row) a.pending a.waits a.held (operand_fine words k first.row few) (operand_says words k first.row few))
 
-pub operand_first : (b : Body) (piece : List ℕ) (number len k : ℕ) (cur : Current) (q : Pending) (draft : Draft) (kept : Option Current) (places : PlaceLines) → AwaitsOperands b cur q → IsFirstRow piece len (λ words. IsWholeRow words k)
-    → (nat_lt 0 k && nat_le k (2 ^ 22)) ≡ true → IfSome b.current (λ c. places ≡ with_row_line b.places q.line c.head (Whole (Op q.opcode k))) → IfSome b.current (λ c. IsSettled b.draft (with_node_row c q.line (Whole (Op q.opcode k))) kept draft)
+pub operand_first : (b : Body) (piece : List ℕ) (number len k : ℕ) (cur : Current) (q : Pending) (draft : Draft)
+    (kept : Option Current) (places : PlaceLines) → AwaitsOperands b cur q
+    → IsFirstRow piece len (λ words. IsWholeRow words k)
+    → (nat_lt 0 k && nat_le k (2 ^ 22)) ≡ true → IfSome b.current
+    (λ c. places ≡ with_row_line b.places q.line c.head (Whole (Op q.opcode k)))
+    → IfSome b.current (λ c. IsSettled b.draft (with_node_row c q.line (Whole (Op q.opcode k))) kept draft)
     → TakesLines b piece number (record { len = len; lines = 1 }) (record b { draft = draft; current = kept; nodes = b.nodes + 1; places = places })
 operand_first b piece number len k cur q draft kept places a first few lines settled =
     row_first b (record b { draft = draft; current = kept; nodes = b.nodes + 1; places = places }) piece number len (λ words. IsWholeRow words k) first (λ words p. (0, p.one))

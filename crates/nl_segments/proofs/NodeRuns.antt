@@ -2,9 +2,9 @@
 use Rattle.std.proofs.Common.{◌≡◌, ◌∙◌, ℕ, ◌+◌, ◌<◌, ◌^◌, ◌==◌, Bool, true, false, if◌then◌else◌, List, [], ◌∷◌, ◌++◌, drop, refl, sym, ap, subst, arith, append_assoc, append-nil, Option, Some, None}
 use Rattle.std.specs.Prelude.{All, IfSome, IsSomeAnd, Ok}
 use Rattle.std.specs.List.{range_with_len}
-use Rattle.texts.specs.Judged.{Decides}
-use Rattle.texts.specs.Words.{row_of, without_comment}
-use Rattle.texts.specs.declared.grammar.Front.{Front}
+use Rattle.text_base.specs.Judged.{Decides}
+use Rattle.text_base.specs.Words.{row_of, without_comment}
+use Rattle.text_base.specs.declared.grammar.Front.{Front}
 use Rattle.nl_model.specs.declared.node.Node.{Node}
 use Rattle.nl_model.specs.Draft.{Draft}
 use Rattle.nl_model.specs.Nodes.{awaited, tree_of}
@@ -28,7 +28,7 @@ use Rattle.nl_segments.specs.InsideTreeSteps.{CanSettle, CanTakeRow, IsNextRow, 
 use Rattle.nl_segments.proofs.NodeFronts.{IsReadNext, leaf_can, leaf_first}
 use Rattle.nl_segments.proofs.NodeSteps.{beyond, fresh_tree, in_tree, wanted_here}
 use Rattle.nl_segments.proofs.PairLines.{awaits_as, opened}
-use Rattle.line_places.proofs.RunLemmas.{range_parts}
+use Rattle.nl_lines.proofs.RunLemmas.{range_parts}
 use Rattle.nl_segments.proofs.StandingLemmas.{changed_same, changed_twice, goes_on, none_taken, still_some}
 
 -- ---- the lines of nodes
@@ -110,7 +110,8 @@ no_node d first before b cur number piece a =
     let same : with_nodes b cur first number 0 ≡ b = λ i. record b { draft = draft i; current = current i; nodes = none i; places = places i } in
     subst (TakesLines b piece number (record { len = 0; lines = 0 })) (sym same) (none_taken b piece number)
 
-pub node_taken : (d : Draft) (first ns : List Node) (node : Node) (before : ℕ) (b : Body) (cur : Current) (number : ℕ) (piece : List ℕ) (front : Front) (len : ℕ) (leaf : Leaf) → AwaitsNodes d first before b cur → 0 < awaited ns
+pub node_taken : (d : Draft) (first ns : List Node) (node : Node) (before : ℕ) (b : Body) (cur : Current) (number : ℕ)
+    (piece : List ℕ) (front : Front) (len : ℕ) (leaf : Leaf) → AwaitsNodes d first before b cur → 0 < awaited ns
     → TakesLines b piece number front (with_nodes b cur ns number front.lines) → IsFirstRow (drop front.len piece) len (λ words. IsLeafRow words leaf) → IsReadAfter d (before + front.lines) leaf node
     → TakesLines b piece number (record { len = front.len + len; lines = front.lines + 1 }) (with_nodes b cur (ns ++ node ∷ []) number (front.lines + 1))
 node_taken d first ns node before b cur number piece front len leaf a some h row read =
@@ -124,7 +125,9 @@ node_taken d first ns node before b cur number piece front len leaf a some h row
     let more : b.nodes + n + 1 ≡ b.nodes + (n + 1) = omega arith in
     let new : Body = record old { draft = settled_draft old.draft next; current = unless_complete next; nodes = old.nodes + 1; places = with_node_line old.places (number + n) cur.head } in
     let step : TakesLines old (drop front.len piece) (number + n) (record { len = len; lines = 1 }) new =
-    leaf_first old (drop front.len piece) (number + n) len leaf (Whole node) 1 (settled_draft old.draft next) (unless_complete next) (with_node_line old.places (number + n) cur.head) (awaiting d first ns before b cur number n a some) row
+    leaf_first old (drop front.len piece) (number + n) len leaf (Whole node) 1 (settled_draft old.draft next)
+    (unless_complete next) (with_node_line old.places (number + n) cur.head)
+    (awaiting d first ns before b cur number n a some) row
     (read_at old d (before + n) leaf node draft count read) refl
     (subst (λ o. IfSome o (λ c. with_node_line old.places (number + n) cur.head ≡ with_node_line old.places (number + n) c.head)) (sym held) refl)
     (subst (λ o. IfSome o (λ c. IsSettled old.draft (with_node_row c (number + n) (Whole node)) (unless_complete next) (settled_draft old.draft next))) (sym held) (settled_is old.draft next)) in
@@ -135,7 +138,9 @@ node_taken d first ns node before b cur number piece front len leaf a some h row
 
 -- the piece may take the node
 pub can_node : (d : Draft) (first ns : List Node) (node : Node) (before : ℕ) (piece : List ℕ) (front : Front) (len : ℕ) (leaf : Leaf) (h : HasNodes d first before) → 0 < awaited ns
-    → TakesLines h.body piece 1 front (with_nodes h.body h.current ns 1 front.lines) → IsFirstRow (drop front.len piece) len (λ words. IsLeafRow words leaf) → IsReadAfter d (before + front.lines) leaf node
+    → TakesLines h.body piece 1 front (with_nodes h.body h.current ns 1 front.lines)
+    → IsFirstRow (drop front.len piece) len (λ words. IsLeafRow words leaf)
+    → IsReadAfter d (before + front.lines) leaf node
     → CanTakeRow (with_nodes h.body h.current ns 1 front.lines).draft (with_nodes h.body h.current ns 1 front.lines).places (only_nodes_of h.current ns) (Whole node) 1
 can_node d first ns node before piece front len leaf h some takes row read =
     let n = front.lines in
@@ -154,10 +159,14 @@ pub known_first : (d : Draft) (first : List Node) (before : ℕ) → HasNodes d 
 known_first d first before h =
     let o = opened h.held.0 h.body h.current h.is.current h.held.1 in
     subst (λ ns. All (IsNodeKnown d.counts.n_var d.definitions) ns) h.is.same_nodes
-    (subst (λ x. All (IsNodeKnown x.counts.n_var x.definitions) h.current.nodes) h.is.draft (subst (λ c. All (IsNodeKnown c.n_var h.body.draft.definitions) h.current.nodes) (sym h.held.1.counts) o.is_open.known))
+    (subst (λ x. All (IsNodeKnown x.counts.n_var x.definitions) h.current.nodes) h.is.draft
+    (subst (λ c. All (IsNodeKnown c.n_var h.body.draft.definitions) h.current.nodes) (sym h.held.1.counts)
+    o.is_open.known))
 
 pub known_next : (d : Draft) (first ns : List Node) (node : Node) (before : ℕ) (piece : List ℕ) (front : Front) (len : ℕ) (leaf : Leaf) (h : HasNodes d first before) → 0 < awaited ns
-    → TakesLines h.body piece 1 front (with_nodes h.body h.current ns 1 front.lines) → IsFirstRow (drop front.len piece) len (λ words. IsLeafRow words leaf) → IsReadAfter d (before + front.lines) leaf node
+    → TakesLines h.body piece 1 front (with_nodes h.body h.current ns 1 front.lines)
+    → IsFirstRow (drop front.len piece) len (λ words. IsLeafRow words leaf)
+    → IsReadAfter d (before + front.lines) leaf node
     → All (IsNodeKnown d.counts.n_var d.definitions) (ns ++ node ∷ [])
 known_next d first ns node before piece front len leaf h some takes row read =
     subst (λ x. All (IsNodeKnown x.counts.n_var x.definitions) (ns ++ node ∷ [])) (same_draft d first ns before h.body h.current 1 front.lines h.is some)
@@ -173,7 +182,9 @@ awaits_nodes b cur line is a next = record { draft = refl; current = is; same_no
     given l (Objective k m) line e = refl
     given l h line e = absurd cc
 
-pub can_settle : (b : Body) (cur next : Current) → b.current ≡ Some cur → IsAwaiting NodeLine b → HoldsSome b → next ≡ only_nodes_of cur next.nodes → All (IsNodeKnown b.draft.counts.n_var b.draft.definitions) next.nodes → CanSettle b.draft next
+pub can_settle : (b : Body) (cur next : Current) → b.current ≡ Some cur → IsAwaiting NodeLine b → HoldsSome b
+    → next ≡ only_nodes_of cur next.nodes → All (IsNodeKnown b.draft.counts.n_var b.draft.definitions) next.nodes
+    → CanSettle b.draft next
 can_settle b cur next is a h same known =
     let tree = (beyond cur (ap in_tree (awaits_as b cur NodeLine is a))).1 in
     subst (CanSettle b.draft) (sym same) (record { tree = tree; fresh = λ e. fresh_tree h.0 b cur h.1 is tree; known = known })

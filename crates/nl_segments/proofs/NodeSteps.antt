@@ -5,7 +5,7 @@ use Rattle.std.specs.Prelude.{ℤ, if◌then◌else◌, IfSome, IsTrue, Ok, IsSo
 use Rattle.std.proofs.lemmas.Bool.{ltb-false, eqb-false, ltb-true, leb-true, and_parts, cond_both}
 use Rattle.std.proofs.lemmas.List.{length-append, append-nil, length-map, map-append, take-append-le}
 use Rattle.nl_header.specs.Head.{options_in, counts_in}
-use Rattle.nl_meaning.specs.Trees.{Tree}
+use Rattle.nl_model.specs.Trees.{Tree}
 use Rattle.nl_model.specs.declared.header_counts.Counts.{Counts}
 use Rattle.nl_model.specs.Draft.{Draft, is_given}
 use Rattle.nl_model.specs.File.{Term}
@@ -41,12 +41,12 @@ use Rattle.nl_lines.specs.Heads.{is_in_range, is_head}
 use Rattle.nl_segments.specs.Grammar.{Standing, counts_of, said}
 use Rattle.nl_lines.proofs.FreshLaw.{none_before, gave_none}
 use Rattle.std.proofs.lemmas.List.Elements.{All-push}
-use Rattle.texts.specs.Judged.{first_reason}
-use Rattle.texts.proofs.FirstReasons.{none_first}
+use Rattle.text_base.specs.Judged.{first_reason}
+use Rattle.text_base.proofs.FirstReasons.{none_first}
 use Rattle.nl_model.specs.declared.node.Node.TheVariants.{Op}
 use Rattle.nl_lines.specs.declared.node_row.NodeRow.{NodeRow}
 use Rattle.nl_lines.specs.declared.node_row.NodeRow.TheVariants.{Whole, Counted}
-use Rattle.texts.specs.Words.{word_at}
+use Rattle.text_base.specs.Words.{word_at}
 use Rattle.exact_numbers.specs.Numbers.{whole_of}
 use Rattle.nl_segments.specs.InsidePlaceSteps.{with_node_line}
 use Rattle.nl_lines.specs.declared.fault.NlReason.TheVariants.{TooLarge}
@@ -151,7 +151,9 @@ pub record IsRowMore (c : Counts) (p : Piece) (row : NumberedRow) (old : Body) (
   pub left : IfSome next.pending (λ q. old.nodes + length more < 2 ^ 22)
 
 said_next : (o : List ℤ) (before : List Piece) (c : Counts) (p : Piece) (row : NumberedRow) (old : Body) (cur next : Current) (more : List Placed) (kept : Option Current) (new : Draft)
-    → IsOpen c old.draft old.name p cur → IsRowMore c p row old cur next more → old.draft ≡ draft_of o c (before ++ p ∷ []) → IsSettled old.draft next kept new → new ≡ draft_of o c (before ++ longer p row ∷ [])
+    → IsOpen c old.draft old.name p cur → IsRowMore c p row old cur next more
+    → old.draft ≡ draft_of o c (before ++ p ∷ []) → IsSettled old.draft next kept new
+    → new ≡ draft_of o c (before ++ longer p row ∷ [])
 said_next o before c p row old cur next more (Some k) new begun m d s =
     let whole = tree_says p.head m.place.tree in
     s.2 ∙ d ∙ draft_before o c before p whole begun.incomplete ∙ sym (draft_before o c before (longer p row) whole (sym (ap is_nothing (awaits c (longer p row) next m.is_next)) ∙ s.0))
@@ -183,8 +185,10 @@ few_next d next None new n nodes s left e = tt
 few_next d next (Some k) new n nodes s left e =
     subst (λ (k : Current). IfSome k.pending (λ q. nodes < 2 ^ 22)) (sym s.1) (subst (λ m. IfSome next.pending (λ q. m < 2 ^ 22)) (sym e) left)
 
-pub row_held : (header : List (List (List ℕ))) (before : List Piece) (p : Piece) (row : NumberedRow) (old : Body) (cur next : Current) (more : List Placed) (count : ℕ) (draft : Draft) (kept : Option Current) (places : PlaceLines)
-    → IsHeld (at header (before ++ p ∷ [])) old → IsOpen (counts_in header) old.draft old.name p cur → IsRowMore (counts_in header) p row old cur next more → count ≡ length more → IsSettled old.draft next kept draft
+pub row_held : (header : List (List (List ℕ))) (before : List Piece) (p : Piece) (row : NumberedRow) (old : Body)
+    (cur next : Current) (more : List Placed) (count : ℕ) (draft : Draft) (kept : Option Current) (places : PlaceLines)
+    → IsHeld (at header (before ++ p ∷ [])) old → IsOpen (counts_in header) old.draft old.name p cur
+    → IsRowMore (counts_in header) p row old cur next more → count ≡ length more → IsSettled old.draft next kept draft
     → places ≡ more_lines (counts_in header) (place_lines (counts_in header) before) (longer p row) p.head
     → IsHeld (at header (before ++ longer p row ∷ [])) (record old { draft = draft; current = kept; nodes = old.nodes + count; places = places })
 row_held header before p row old cur next more count draft kept places h begun m counted settled place =
@@ -211,7 +215,8 @@ row_held header before p row old cur next more count draft kept places h begun m
       few_terms = h.few_terms;
     })
 
-fresh_by : (header : List (List (List ℕ))) (before : List Piece) (p : Piece) (b : Body) (cur : Current) (h : Head) → IsHeld (at header (before ++ p ∷ [])) b → IsOpen (counts_in header) b.draft b.name p cur
+fresh_by : (header : List (List (List ℕ))) (before : List Piece) (p : Piece) (b : Body) (cur : Current) (h : Head)
+    → IsHeld (at header (before ++ p ∷ [])) b → IsOpen (counts_in header) b.draft b.name p cur
     → has_tree p.head ≡ true → p.head ≡ h → IsFresh b.draft h cur.pairs
 unfolding is_in_range
 fresh_by header before p b cur h held begun tree e = by h e
@@ -276,7 +281,9 @@ nodes_few s b cur h e =
 same_terms : (c : Counts) (p : Piece) (row : NumberedRow) → IsInTree c p → term_lines (longer p row) ≡ term_lines p
 same_terms c p row t = ap (map (λ r. r.line)) (take-append-le (pair_count p.head) p.rows (row ∷ []) t.early)
 
-row_lines : (header : List (List (List ℕ))) (before : List Piece) (p : Piece) (row : NumberedRow) (b : Body) (cur : Current) (r : NodeRow) (line : ℕ) → IsHeld (at header (before ++ p ∷ [])) b → cur.head ≡ p.head → IsInTree (counts_in header) p
+row_lines : (header : List (List (List ℕ))) (before : List Piece) (p : Piece) (row : NumberedRow) (b : Body)
+    (cur : Current) (r : NodeRow) (line : ℕ) → IsHeld (at header (before ++ p ∷ [])) b → cur.head ≡ p.head
+    → IsInTree (counts_in header) p
     → piece_nodes (counts_in header) (longer p row) ≡ piece_nodes (counts_in header) p ++ row_placed line r
     → with_row_line b.places line cur.head r ≡ more_lines (counts_in header) (place_lines (counts_in header) before) (longer p row) p.head
 row_lines header before p row b cur (Whole n) line h head t nodes =
@@ -324,7 +331,9 @@ pub record IsRowRead (b : Body) (words : List (List ℕ)) (line : ℕ) (cur : Cu
   pub fine : (s : Standing) → IsHeld s b → words_refusal s words ≡ None
   pub step : (row : NumberedRow) → IsRowOf row words line → IsRowStep b.draft.counts.n_var cur row r at_line
 
-node_known_in : (b : Body) (words : List (List ℕ)) (r : NodeRow) → IsRow (node_in b.draft.counts.n_var words) (opcode_in words) r → first_reason (counted_node_tests b.draft.counts b.draft b.nodes words) ≡ None
+node_known_in : (b : Body) (words : List (List ℕ)) (r : NodeRow)
+    → IsRow (node_in b.draft.counts.n_var words) (opcode_in words) r
+    → first_reason (counted_node_tests b.draft.counts b.draft b.nodes words) ≡ None
     → IsRowKnown b.draft.counts.n_var b.draft.definitions r
 node_known_in b words (Whole n) is fine = node_known b.draft.counts b.draft words n is.0 (none_first (node_form_tests b.draft.counts b.draft words) ((nat_le (2 ^ 22) b.nodes, TooLarge) ∷ []) fine)
 node_known_in b words (Counted o) is fine = tt
@@ -368,7 +377,8 @@ count_read b words line cur q k here awaits other pending opcode held fine count
 
 -- ---- the piece with it
 
-known_with : (n : ℕ) (ds : List DefinitionValue) (cur : Current) (r : NodeRow) (line : ℕ) → All (IsNodeKnown n ds) cur.nodes → IsRowKnown n ds r → All (IsNodeKnown n ds) (with_node_row cur line r).nodes
+known_with : (n : ℕ) (ds : List DefinitionValue) (cur : Current) (r : NodeRow) (line : ℕ)
+    → All (IsNodeKnown n ds) cur.nodes → IsRowKnown n ds r → All (IsNodeKnown n ds) (with_node_row cur line r).nodes
 known_with n ds cur (Whole m) line known is = All-push (IsNodeKnown n ds) cur.nodes m known is
 known_with n ds cur (Counted o) line known is = known
 
@@ -378,7 +388,8 @@ row_known s b words line at_line cur r h read =
     let o = opened s b cur read.here h in
     known_with b.draft.counts.n_var b.draft.definitions cur r at_line (subst (λ (c : Counts). All (IsNodeKnown c.n_var b.draft.definitions) cur.nodes) (sym h.counts) o.is_open.known) read.known
 
-pub can_take : (b : Body) (words : List (List ℕ)) (line at_line : ℕ) (cur : Current) (r : NodeRow) → HoldsSome b → IsRowRead b words line cur r at_line → IsSomeAnd b.current (λ c. CanTakeRow b.draft b.places c r at_line)
+pub can_take : (b : Body) (words : List (List ℕ)) (line at_line : ℕ) (cur : Current) (r : NodeRow) → HoldsSome b
+    → IsRowRead b words line cur r at_line → IsSomeAnd b.current (λ c. CanTakeRow b.draft b.places c r at_line)
 can_take b words line at_line cur r held read =
     let s = held.0 in
     let h = held.1 in
@@ -403,7 +414,9 @@ room_after : (cur : Current) (line nodes : ℕ) (r : NodeRow) → nodes < 2 ^ 22
 room_after cur line nodes (Whole n) few = tt
 room_after cur line nodes (Counted o) few = omega (arith, few)
 
-pub row_taken : (b : Body) (words : List (List ℕ)) (line at_line : ℕ) (cur : Current) (r : NodeRow) (count : ℕ) (draft : Draft) (kept : Option Current) (places : PlaceLines) → IsRowRead b words line cur r at_line → count ≡ row_count r
+pub row_taken : (b : Body) (words : List (List ℕ)) (line at_line : ℕ) (cur : Current) (r : NodeRow) (count : ℕ)
+    (draft : Draft) (kept : Option Current) (places : PlaceLines) → IsRowRead b words line cur r at_line
+    → count ≡ row_count r
     → IfSome b.current (λ c. places ≡ with_row_line b.places at_line c.head r) → IfSome b.current (λ c. IsSettled b.draft (with_node_row c at_line r) kept draft)
     → TakesRow b words line (Ok tt) (record b { draft = draft; current = kept; nodes = b.nodes + count; places = places })
 row_taken b words line at_line cur r count draft kept places read counted lines settled =
@@ -432,7 +445,8 @@ row_taken b words line at_line cur r count draft kept places read counted lines 
 
 -- ---- a node
 
-pub node_refused : (b : Body) (words : List (List ℕ)) (reason : NlReason) → IsAwaiting NodeLine b → is_head words ≡ false → first_reason (counted_node_tests b.draft.counts b.draft b.nodes words) ≡ Some reason
+pub node_refused : (b : Body) (words : List (List ℕ)) (reason : NlReason) → IsAwaiting NodeLine b
+    → is_head words ≡ false → first_reason (counted_node_tests b.draft.counts b.draft b.nodes words) ≡ Some reason
     → (s : Standing) → IsHeld s b → words_refusal s words ≡ Some reason
 node_refused b words reason awaits plain fault s h =
     let a = awaiting b NodeLine awaits in
@@ -447,7 +461,9 @@ can_keep_node b r line awaits some held =
     can_take b some.0 line line w.cur r held (read_of b some.0 line r awaits w some.1)
 
 pub node_kept : (b : Body) (r : NodeRow) (line count : ℕ) (draft : Draft) (kept : Option Current) (places : PlaceLines) → IsAwaiting NodeLine b → count ≡ row_count r
-    → IfSome b.current (λ c. places ≡ with_row_line b.places line c.head r) → IfSome b.current (λ c. IsSettled b.draft (with_node_row c line r) kept draft) → (words : List (List ℕ)) → IsGoodNode b r words
+    → IfSome b.current (λ c. places ≡ with_row_line b.places line c.head r)
+    → IfSome b.current (λ c. IsSettled b.draft (with_node_row c line r) kept draft) → (words : List (List ℕ))
+    → IsGoodNode b r words
     → TakesRow b words line (Ok tt) (record b { draft = draft; current = kept; nodes = b.nodes + count; places = places })
 node_kept b r line count draft kept places awaits counted lines settled words good =
     let w = awaiting b NodeLine awaits in

@@ -12,10 +12,14 @@ use Rattle.nl_lines.specs.declared.head.Head.{Head}
 use Rattle.nl_lines.specs.Rows.{NumberedRow, row_words}
 use Rattle.nl_lines.specs.declared.pending.Pending.{Pending}
 use Rattle.nl_lines.specs.Nodes.{Placed, nodes_of, only_nodes}
-use Rattle.nl_lines.specs.Pieces.{Piece, awaited_in, is_complete, is_nothing, line_count, line_kind, has_tree, pair_count, piece_nodes, piece_pairs, piece_pending, tree_awaits, interval_in, piece_intervals}
+use Rattle.nl_lines.specs.Pieces.{Piece, awaited_in, is_complete, is_nothing, line_count, line_kind, has_tree}
+use Rattle.nl_lines.specs.Pieces.{pair_count, piece_nodes, piece_pairs, piece_pending, tree_awaits, interval_in}
+use Rattle.nl_lines.specs.Pieces.{piece_intervals}
 use Rattle.nl_lines.specs.declared.head.Head.TheVariants.{ColumnCounts, Sides, Bounds}
 use Rattle.std.proofs.lemmas.List.{append_assoc, append-nil, take-append-le}
-use Rattle.nl_lines.specs.Tests.{all_column_counts, column_counts, index_limit, is_linear, is_suffix, pair_total, node_total, column_tests, holds_once, interval_form_tests, interval_tests, is_binary, is_sides}
+use Rattle.nl_lines.specs.Tests.{all_column_counts, column_counts, index_limit, is_linear, is_suffix, pair_total}
+use Rattle.nl_lines.specs.Tests.{node_total, column_tests, holds_once, interval_form_tests, interval_tests, is_binary}
+use Rattle.nl_lines.specs.Tests.{is_sides}
 use Rattle.nl_lines.specs.Saying.{place_lines, draft_of, said_by}
 use Rattle.nl_segments.specs.Grammar.{counts_of, said, Standing}
 use Rattle.nl_segments.specs.Current.{Current, IsCurrent, current_awaits, less_line}
@@ -36,9 +40,9 @@ use Rattle.linear_program.specs.declared.interval.Interval.{Interval}
 use Rattle.nl_model.specs.Kinds.{variable_kind}
 use Rattle.nl_lines.specs.declared.fault.NlReason.{NlReason}
 use Rattle.exact_numbers.specs.Numbers.{whole_of}
-use Rattle.texts.specs.Words.{word_at}
+use Rattle.text_base.specs.Words.{word_at}
 use Rattle.nl_lines.specs.Heads.{is_head, number_at}
-use Rattle.texts.specs.Judged.{first_reason}
+use Rattle.text_base.specs.Judged.{first_reason}
 use Rattle.nl_lines.proofs.FreshLaw.{none_before, gave_none}
 
 -- ---- a line before any expression is awaited
@@ -79,7 +83,9 @@ pub before_lines : (c : Counts) (p : Piece) (kind : Awaited) → awaited_in c p 
 unfolding awaited_in
 before_lines c p kind e line = by (nat_lt (length p.rows) (line_count c p.head)) (has_tree p.head) refl e
   where
-    by : (t u : Bool) → nat_lt (length p.rows) (line_count c p.head) ≡ t → (if t then line_kind p.head else (if u then tree_awaits (piece_nodes c p) (piece_pending p) else Nothing)) ≡ kind → IsBefore c p kind
+    by : (t u : Bool) → nat_lt (length p.rows) (line_count c p.head) ≡ t
+        → (if t then line_kind p.head else (if u then tree_awaits (piece_nodes c p) (piece_pending p) else Nothing))
+        ≡ kind → IsBefore c p kind
     by true u q is = record { within = ltb-true _ _ q; same_kind = is }
     by false true q is = absurd (never (sym (ap is_line_kind is ∙ line) ∙ no_line (piece_nodes c p) (piece_pending p)))
     by false false q is = absurd (never (sym (ap is_line_kind is ∙ line)))
@@ -96,7 +102,8 @@ early c p cur kind h e is =
 
 -- ---- the piece with the line
 
-pub last_closed : (c : Counts) (d : Draft) (name : Option (List ℕ)) (q : Piece) (cur : Current) (held : Option Current) → IsCurrent c q cur → held ≡ unless_complete cur → (is_complete c q ≡ false → IsOpen c d name q cur)
+pub last_closed : (c : Counts) (d : Draft) (name : Option (List ℕ)) (q : Piece) (cur : Current) (held : Option Current)
+    → IsCurrent c q cur → held ≡ unless_complete cur → (is_complete c q ≡ false → IsOpen c d name q cur)
     → IsLast c d name (Some q) held
 last_closed c d name q cur held h e open_if =
     let same : is_nothing (current_awaits cur) ≡ is_complete c q = ap is_nothing (awaits c q cur h) in
@@ -124,7 +131,9 @@ pub record Changes (header : List (List (List ℕ))) (before : List Piece) (p : 
   pub few : IsNodeLeft new.current new.nodes
   pub few_terms : new.linear ≤ most_terms
 
-pub held_longer : (header : List (List (List ℕ))) (before : List Piece) (p : Piece) (row : NumberedRow) (old new : Body) → IsHeld (at header (before ++ p ∷ [])) old → Changes header before p row old new → IsHeld (at header (before ++ longer p row ∷ [])) new
+pub held_longer : (header : List (List (List ℕ))) (before : List Piece) (p : Piece) (row : NumberedRow) (old new : Body)
+    → IsHeld (at header (before ++ p ∷ [])) old → Changes header before p row old new
+    → IsHeld (at header (before ++ longer p row ∷ [])) new
 held_longer header before p row old new h g =
     let c = counts_of (at header []) in
     let ps = before ++ longer p row ∷ [] in
@@ -150,12 +159,15 @@ held_longer header before p row old new h g =
     }
 
 -- a line before any expression is no node
-pub nodes_early : (c : Counts) (before : List Piece) (p : Piece) (row : NumberedRow) → length p.rows < line_count c p.head → node_total c (before ++ longer p row ∷ []) ≡ node_total c (before ++ p ∷ [])
+pub nodes_early : (c : Counts) (before : List Piece) (p : Piece) (row : NumberedRow)
+    → length p.rows < line_count c p.head → node_total c (before ++ longer p row ∷ []) ≡ node_total c (before ++ p ∷ [])
 nodes_early c before p row within = nodes_longer c before p row (ap (λ rs. nodes_of c.n_var rs) (early_tree c p row within))
 
 -- ---- a line that is no pair
 
-pub same_totals : (counts : Head → Bool) (before : List Piece) (p : Piece) (row : NumberedRow) → piece_pairs (longer p row) ≡ piece_pairs p → pair_total counts (before ++ longer p row ∷ []) ≡ pair_total counts (before ++ p ∷ [])
+pub same_totals : (counts : Head → Bool) (before : List Piece) (p : Piece) (row : NumberedRow)
+    → piece_pairs (longer p row) ≡ piece_pairs p → pair_total counts (before ++ longer p row ∷ [])
+    ≡ pair_total counts (before ++ p ∷ [])
 same_totals counts before p row e = pairs_with counts before (longer p row) ∙ ap (λ ts. pair_total counts before + (if counts p.head then length ts else 0)) e ∙ sym (pairs_with counts before p)
 
 pub none_within : (p : Piece) → pair_count p.head ≡ 0 → pair_count p.head ≤ length p.rows
@@ -185,14 +197,16 @@ columns_kept before p row other = columns-append before (longer p row) ∙ ap (�
     by (ColumnCounts n) e = absurd (other (ap line_kind e))
     by head e = rw e refl
 
-pub places_no_pair : (c : Counts) (before : List Piece) (p : Piece) (row : NumberedRow) → pair_count p.head ≡ 0 → length p.rows < line_count c p.head → place_lines c (before ++ longer p row ∷ []) ≡ place_lines c (before ++ p ∷ [])
+pub places_no_pair : (c : Counts) (before : List Piece) (p : Piece) (row : NumberedRow) → pair_count p.head ≡ 0
+    → length p.rows < line_count c p.head → place_lines c (before ++ longer p row ∷ []) ≡ place_lines c (before ++ p ∷ [])
 places_no_pair c before p row e within =
     lines-append c before (longer p row)
     ∙ place_same c (place_lines c before) p row p.head (ap (λ rs. map (λ n. n.line) (nodes_of c.n_var rs)) (early_tree c p row within)) (rw e refl)
     ∙ sym (lines-append c before p)
 
 -- what is held of the piece, with the line
-pub open_line : (c : Counts) (d e : Draft) (name : Option (List ℕ)) (p : Piece) (row : NumberedRow) (cur : Current) → IsOpen c d name p cur → length p.rows < line_count c p.head → pair_count p.head ≡ 0
+pub open_line : (c : Counts) (d e : Draft) (name : Option (List ℕ)) (p : Piece) (row : NumberedRow) (cur : Current)
+    → IsOpen c d name p cur → length p.rows < line_count c p.head → pair_count p.head ≡ 0
     → e.definitions ≡ d.definitions → is_complete c (longer p row) ≡ false → IsOpen c e name (longer p row) (less_line cur)
 open_line c d e name p row cur h within none same f =
     record {
@@ -210,7 +224,8 @@ column_more : (before : List Piece) (p : Piece) (row : NumberedRow) (n k : ℕ) 
 column_more before p row n k e is =
     columns-append before (longer p row)
     ∙ ap (λ h. all_column_counts before ++ column_counts (longer p row) h) e
-    ∙ ap (λ ns. all_column_counts before ++ ns) (filter_map-append (λ r. whole_of (word_at (row_words r) 0)) p.rows (row ∷ []) ∙ ap (λ o. filter_map (λ r. number_at (row_words r) 0) p.rows ++ cons_option o []) is)
+    ∙ ap (λ ns. all_column_counts before ++ ns) (filter_map-append (λ r. whole_of (word_at (row_words r) 0)) p.rows
+    (row ∷ []) ∙ ap (λ o. filter_map (λ r. number_at (row_words r) 0) p.rows ++ cons_option o []) is)
     ∙ sym (append_assoc (all_column_counts before) (filter_map (λ r. number_at (row_words r) 0) p.rows) (k ∷ []))
     ∙ sym (ap (λ ns. ns ++ k ∷ []) (columns-append before p ∙ ap (λ h. all_column_counts before ++ column_counts p h) e))
 
@@ -224,7 +239,8 @@ column_head (ColumnCounts n) e = record { count = n; is = refl }
 column_head head e = absurd cc
 
 -- a line that is no pair changes the draft or the numbers of columns, where p is the last piece
-with_plain_line : (header : List (List (List ℕ))) (before : List Piece) (p : Piece) (row : NumberedRow) (cur : Current) (kind : Awaited) (old : Body) (draft : Draft) (columns : List ℕ) (current : Option Current)
+with_plain_line : (header : List (List (List ℕ))) (before : List Piece) (p : Piece) (row : NumberedRow) (cur : Current)
+    (kind : Awaited) (old : Body) (draft : Draft) (columns : List ℕ) (current : Option Current)
     → IsHeld (at header (before ++ p ∷ [])) old → IsOpen (counts_of (at header [])) old.draft old.name p cur → old.current ≡ Some cur → IsEarly (counts_of (at header [])) p cur kind
     → is_line_kind kind ≡ true → is_pair kind ≡ false → draft ≡ said (at header (before ++ longer p row ∷ [])) → draft.definitions ≡ old.draft.definitions → draft.terms ≡ old.draft.terms
     → columns ≡ all_column_counts (before ++ longer p row ∷ []) → current ≡ unless_complete (less_line cur)
@@ -239,7 +255,9 @@ with_plain_line header before p row cur kind old draft columns current h o cur_i
     (record {
       sound = sound_kept c p row late (last_sound c before p h.sound);
       draft = draft_is;
-      last = last_closed c draft old.name (longer p row) (less_line cur) current (with_line c p cur row o.current e.within) current_is (open_line c old.draft draft old.name p row cur o e.within none definitions);
+      last = last_closed c draft old.name (longer p row) (less_line cur) current
+          (with_line c p cur row o.current e.within) current_is
+          (open_line c old.draft draft old.name p row cur o e.within none definitions);
       marks = λ t. absurd (let once = plain.1 in cc);
       room = refl;
       linear = h.linear ∙ sym (same_totals _ before p row pairs);
@@ -257,16 +275,22 @@ with_plain_line header before p row cur kind old draft columns current h o cur_i
 
 -- ---- a line of k
 
-pub column_refused : (b : Body) (words : List (List ℕ)) (r : NlReason) → IsAwaiting ColumnCount b → is_head words ≡ false → first_reason (column_tests words) ≡ Some r → (s : Standing) → IsHeld s b → words_refusal s words ≡ Some r
+pub column_refused : (b : Body) (words : List (List ℕ)) (r : NlReason) → IsAwaiting ColumnCount b
+    → is_head words ≡ false → first_reason (column_tests words) ≡ Some r → (s : Standing) → IsHeld s b
+    → words_refusal s words ≡ Some r
 column_refused b words r a plain e s h =
     let w = awaiting b ColumnCount a in
     judged_by s b w.cur words ColumnCount (opened s b w.cur w.is h) plain w.awaits_it ∙ e
 
-pub column_step : (b : Body) (words : List (List ℕ)) (line k : ℕ) (columns : List ℕ) (current : Option Current) → IsAwaiting ColumnCount b → is_head words ≡ false → first_reason (column_tests words) ≡ None
-    → whole_of (word_at words 0) ≡ Some k → columns ≡ b.columns ++ k ∷ [] → IfSome b.current (λ c. current ≡ unless_complete (less_line c)) → TakesRow b words line (Ok tt) (record b { columns = columns; current = current })
+pub column_step : (b : Body) (words : List (List ℕ)) (line k : ℕ) (columns : List ℕ) (current : Option Current)
+    → IsAwaiting ColumnCount b → is_head words ≡ false → first_reason (column_tests words) ≡ None
+    → whole_of (word_at words 0) ≡ Some k → columns ≡ b.columns ++ k ∷ []
+    → IfSome b.current (λ c. current ≡ unless_complete (less_line c))
+    → TakesRow b words line (Ok tt) (record b { columns = columns; current = current })
 column_step b words line k columns current a plain fine is columns_are current_is =
     let w = awaiting b ColumnCount a in
-    last_taken b (record b { columns = columns; current = current }) w.cur words line plain (λ s h. judged_by s b w.cur words ColumnCount (opened s b w.cur w.is h) plain w.awaits_it ∙ fine) (λ s row r h.
+    last_taken b (record b { columns = columns; current = current }) w.cur words line plain
+    (λ s h. judged_by s b w.cur words ColumnCount (opened s b w.cur w.is h) plain w.awaits_it ∙ fine) (λ s row r h.
     let c = counts_of s in
     let o = opened s b w.cur w.is h in
     let held = subst (λ t. IsHeld t b) o.whole h in
@@ -317,18 +341,28 @@ judged_interval : (s : Standing) (b : Body) (cur : Current) (words : List (List 
     → words_refusal s words ≡ first_reason (next_interval_tests (counts_of s) cur words)
 judged_interval s b cur words e kind plain h =
     let o = opened s b cur e h in
-    judged_by s b cur words IntervalLine o plain kind ∙ ap first_reason (tests_held (counts_of s) o.piece cur words o.is_open.current (early (counts_of s) o.piece cur IntervalLine o.is_open.current kind refl))
+    judged_by s b cur words IntervalLine o plain kind ∙ ap first_reason
+    (tests_held (counts_of s) o.piece cur words o.is_open.current
+    (early (counts_of s) o.piece cur IntervalLine o.is_open.current kind refl))
 
-pub interval_refused : (b : Body) (cur : Current) (words : List (List ℕ)) (r : NlReason) → b.current ≡ Some cur → IsAwaiting IntervalLine b → is_head words ≡ false → first_reason (next_interval_tests b.draft.counts cur words) ≡ Some r
+pub interval_refused : (b : Body) (cur : Current) (words : List (List ℕ)) (r : NlReason) → b.current ≡ Some cur
+    → IsAwaiting IntervalLine b → is_head words ≡ false → first_reason (next_interval_tests b.draft.counts cur words)
+    ≡ Some r
     → (s : Standing) → IsHeld s b → words_refusal s words ≡ Some r
-interval_refused b cur words r is a plain e s h = judged_interval s b cur words is (awaits_as b cur IntervalLine is a) plain h ∙ ap (λ c. first_reason (next_interval_tests c cur words)) (sym h.counts) ∙ e
+interval_refused b cur words r is a plain e s h = judged_interval s b cur words is (awaits_as b cur IntervalLine is a)
+    plain h ∙ ap (λ c. first_reason (next_interval_tests c cur words)) (sym h.counts) ∙ e
 
-pub interval_step : (b : Body) (cur : Current) (words : List (List ℕ)) (line : ℕ) (i : Interval) (draft : Draft) (current : Option Current) → b.current ≡ Some cur → IsAwaiting IntervalLine b → is_head words ≡ false
-    → first_reason (next_interval_tests b.draft.counts cur words) ≡ None → interval_in words ≡ Some i → draft ≡ with_interval b.draft (is_sides cur.head) i → IfSome b.current (λ c. current ≡ unless_complete (less_line c))
+pub interval_step : (b : Body) (cur : Current) (words : List (List ℕ)) (line : ℕ) (i : Interval) (draft : Draft)
+    (current : Option Current) → b.current ≡ Some cur → IsAwaiting IntervalLine b → is_head words ≡ false
+    → first_reason (next_interval_tests b.draft.counts cur words) ≡ None → interval_in words ≡ Some i
+    → draft ≡ with_interval b.draft (is_sides cur.head) i
+    → IfSome b.current (λ c. current ≡ unless_complete (less_line c))
     → TakesRow b words line (Ok tt) (record b { draft = draft; current = current })
 interval_step b cur words line i draft current cur_is a plain fine is draft_is current_is =
     let kind = awaits_as b cur IntervalLine cur_is a in
-    last_taken b (record b { draft = draft; current = current }) cur words line plain (λ s h. judged_interval s b cur words cur_is kind plain h ∙ ap (λ c. first_reason (next_interval_tests c cur words)) (sym h.counts) ∙ fine) (λ s row r h.
+    last_taken b (record b { draft = draft; current = current }) cur words line plain
+    (λ s h. judged_interval s b cur words cur_is kind plain h
+    ∙ ap (λ c. first_reason (next_interval_tests c cur words)) (sym h.counts) ∙ fine) (λ s row r h.
     let c = counts_of s in
     let o = opened s b cur cur_is h in
     let held = subst (λ t. IsHeld t b) o.whole h in
@@ -357,11 +391,15 @@ few_from (r ∷ rows) = by (interval_in (row_words r)) (few_from rows)
 few_intervals : (p : Piece) → length (piece_intervals p) ≤ length p.rows
 few_intervals p = few_from p.rows
 
-room_said : (o : List ℤ) (c : Counts) (before : List Piece) (p : Piece) → AreSound c (before ++ p ∷ []) → IsIntervalHead p.head → length p.rows < line_count c p.head → HasRoom (draft_of o c (before ++ p ∷ [])) (is_sides p.head)
+room_said : (o : List ℤ) (c : Counts) (before : List Piece) (p : Piece) → AreSound c (before ++ p ∷ [])
+    → IsIntervalHead p.head → length p.rows < line_count c p.head
+    → HasRoom (draft_of o c (before ++ p ∷ [])) (is_sides p.head)
 room_said o c before p h (of_constraints e) within =
     let fresh = none_before before p h.apart in
     let none = gave_none o c before Sides p.name refl (rw e at fresh) in
-    let said : (draft_of o c (before ++ p ∷ [])).sides ≡ piece_intervals p = ap (λ d. d.sides) (draft-append o c before p ∙ ap (said_by (draft_of o c before) p) e) ∙ ap (λ is. is ++ piece_intervals p) none in
+    let said : (draft_of o c (before ++ p ∷ [])).sides ≡ piece_intervals p =
+    ap (λ d. d.sides) (draft-append o c before p ∙ ap (said_by (draft_of o c before) p) e)
+    ∙ ap (λ is. is ++ piece_intervals p) none in
     let few = few_intervals p in
     let lt : length p.rows < c.n_con = rw e at within in
     let n = ap (λ k. k.n_con) (draft_counts o c (before ++ p ∷ [])) in
@@ -369,7 +407,9 @@ room_said o c before p h (of_constraints e) within =
 room_said o c before p h (of_variables e) within =
     let fresh = none_before before p h.apart in
     let none = gave_none o c before Bounds p.name refl (rw e at fresh) in
-    let said : (draft_of o c (before ++ p ∷ [])).bounds ≡ piece_intervals p = ap (λ d. d.bounds) (draft-append o c before p ∙ ap (said_by (draft_of o c before) p) e) ∙ ap (λ is. is ++ piece_intervals p) none in
+    let said : (draft_of o c (before ++ p ∷ [])).bounds ≡ piece_intervals p =
+    ap (λ d. d.bounds) (draft-append o c before p ∙ ap (said_by (draft_of o c before) p) e)
+    ∙ ap (λ is. is ++ piece_intervals p) none in
     let few = few_intervals p in
     let lt : length p.rows < c.n_var = rw e at within in
     let n = ap (λ k. k.n_var) (draft_counts o c (before ++ p ∷ [])) in

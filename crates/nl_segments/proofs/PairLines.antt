@@ -21,7 +21,7 @@ use Rattle.std.proofs.Math.Seq.{get_or-append_seam}
 use Rattle.std.proofs.lemmas.List.Elements.{All-push, filter-append}
 use Rattle.std.proofs.lemmas.List.Folds.{list_any-append}
 use Rattle.std.proofs.lemmas.List.Quantifiers.{all_pairs_push}
-use Rattle.texts.specs.Judged.{first_reason}
+use Rattle.text_base.specs.Judged.{first_reason}
 use Rattle.nl_lines.specs.declared.awaited.Awaited.{Awaited}
 use Rattle.nl_segments.specs.Grammar.{Standing, counts_of, said}
 use Rattle.nl_segments.specs.Steps.{after_body_row}
@@ -37,7 +37,8 @@ changed_again f g xs i lt =
     ap (λ o. slice_set (changed g xs i) i (f o)) (get_set xs i (g (get_or xs i no_lines)) no_lines lt)
     ∙ set_again xs i (g (get_or xs i no_lines)) (f (g (get_or xs i no_lines)))
 
-changed_more : (f g h : OwnerLines → OwnerLines) (xs : List OwnerLines) (i : ℕ) → i < length xs → h (get_or xs i no_lines) ≡ f (g (get_or xs i no_lines)) → changed h xs i ≡ changed f (changed g xs i) i
+changed_more : (f g h : OwnerLines → OwnerLines) (xs : List OwnerLines) (i : ℕ) → i < length xs
+    → h (get_or xs i no_lines) ≡ f (g (get_or xs i no_lines)) → changed h xs i ≡ changed f (changed g xs i) i
 changed_more f g h xs i lt e = ap (slice_set xs i) e ∙ sym (changed_again f g xs i lt)
 
 changed_last : (f : OwnerLines → OwnerLines) (xs : List OwnerLines) (x y : OwnerLines) → y ≡ f x → xs ++ y ∷ [] ≡ changed f (xs ++ x ∷ []) (length (xs ++ x ∷ []) - 1)
@@ -58,7 +59,9 @@ place_begun c l head name line = refl
 
 -- ---- a node
 
-with_tree_more : (c : Counts) (p : Piece) (row : NumberedRow) (line : ℕ) (o : OwnerLines) → node_lines c (longer p row) ≡ node_lines c p ++ line ∷ [] → with_tree_lines c (longer p row) o ≡ more_nodes line (with_tree_lines c p o)
+with_tree_more : (c : Counts) (p : Piece) (row : NumberedRow) (line : ℕ) (o : OwnerLines)
+    → node_lines c (longer p row) ≡ node_lines c p ++ line ∷ []
+    → with_tree_lines c (longer p row) o ≡ more_nodes line (with_tree_lines c p o)
 with_tree_more c p row line o e = λ i. record { head = Some p.line; nodes = e i; terms = o.terms }
 
 pub place_node : (c : Counts) (l : PlaceLines) (p : Piece) (row : NumberedRow) (line : ℕ) (h : Head) → HasOwner l h → has_tree h ≡ true
@@ -99,7 +102,9 @@ place_term c l p row line head owner linear e t = absurd cc
 
 -- ---- no node and no term
 
-pub place_same : (c : Counts) (l : PlaceLines) (p : Piece) (row : NumberedRow) (h : Head) → node_lines c (longer p row) ≡ node_lines c p → term_lines (longer p row) ≡ term_lines p → more_lines c l (longer p row) h ≡ more_lines c l p h
+pub place_same : (c : Counts) (l : PlaceLines) (p : Piece) (row : NumberedRow) (h : Head)
+    → node_lines c (longer p row) ≡ node_lines c p → term_lines (longer p row) ≡ term_lines p
+    → more_lines c l (longer p row) h ≡ more_lines c l p h
 place_same c l p row (BodyHead i) e t = ap (λ (ns : List ℕ). record l { constraints = changed (λ o. record { head = Some p.line; nodes = ns; terms = o.terms }) l.constraints i }) e
 place_same c l p row (Objective k m) e t = ap (λ (ns : List ℕ). record l { objectives = changed (λ o. record { head = Some p.line; nodes = ns; terms = o.terms }) l.objectives k }) e
 place_same c l p row (Definition i j u) e t = ap₂ (λ (ns ts : List ℕ). record l { definitions = l.definitions ++ record { head = Some p.line; nodes = ns; terms = ts } ∷ [] }) e t
@@ -203,7 +208,9 @@ row_after header before p row plain = rw plain (ap (at header) (extended-append 
 
 -- a row with which nothing is wrong is taken, where what is held after it is that of the last piece with it
 pub last_taken : (b new : Body) (cur : Current) (words : List (List ℕ)) (line : ℕ) → is_head words ≡ false → ((s : Standing) → IsHeld s b → words_refusal s words ≡ None)
-    → ((s : Standing) (row : NumberedRow) → IsRowOf row words line → IsHeld s b → (o : Opened s b cur) × IsHeld (at s.header (o.before ++ longer o.piece row ∷ [])) new) → TakesRow b words line (Ok tt) new
+    → ((s : Standing) (row : NumberedRow) → IsRowOf row words line → IsHeld s b
+    → (o : Opened s b cur) × IsHeld (at s.header (o.before ++ longer o.piece row ∷ [])) new)
+    → TakesRow b words line (Ok tt) new
 last_taken b new cur words line plain fine step s row is h =
     let next = step s row is h in
     let after = row_after s.header next.0.before next.0.piece row (ap is_head is.same_words ∙ plain) in
@@ -254,7 +261,8 @@ sound_longer c before p row h new =
       complete = λ b q e. subst (All (λ q. is_complete c q ≡ true)) (sym (front-append before (longer p row)) ∙ ap front e ∙ front-append b q) (h.complete before p refl);
     }
 
-pub seen_longer : (before : List Piece) (p : Piece) (row : NumberedRow) (head : Head) → list_any (is_same_piece head []) (before ++ longer p row ∷ []) ≡ list_any (is_same_piece head []) (before ++ p ∷ [])
+pub seen_longer : (before : List Piece) (p : Piece) (row : NumberedRow) (head : Head)
+    → list_any (is_same_piece head []) (before ++ longer p row ∷ []) ≡ list_any (is_same_piece head []) (before ++ p ∷ [])
 seen_longer before p row head = list_any-append (is_same_piece head []) before (longer p row ∷ []) ∙ sym (list_any-append (is_same_piece head []) before (p ∷ []))
 
 pub are_seen_longer : (c : Counts) (b : Body) (before : List Piece) (p : Piece) (row : NumberedRow) → AreSeen c b.seen (before ++ p ∷ []) → AreSeen c b.seen (before ++ longer p row ∷ [])
@@ -278,7 +286,9 @@ pairs_with counts before q = by (counts q.head) refl
     by true e = pairs-append counts before q e ∙ rw e refl
     by false e = pairs-other counts before q e ∙ rw e (omega arith)
 
-pub nodes_longer : (c : Counts) (before : List Piece) (p : Piece) (row : NumberedRow) → piece_nodes c (longer p row) ≡ piece_nodes c p → node_total c (before ++ longer p row ∷ []) ≡ node_total c (before ++ p ∷ [])
+pub nodes_longer : (c : Counts) (before : List Piece) (p : Piece) (row : NumberedRow)
+    → piece_nodes c (longer p row) ≡ piece_nodes c p → node_total c (before ++ longer p row ∷ [])
+    ≡ node_total c (before ++ p ∷ [])
 nodes_longer c before p row e = nodes-append c before (longer p row) ∙ ap (λ ns. node_total c before + length ns) e ∙ sym (nodes-append c before p)
 
 -- one pair more counts where such heads are counted
@@ -305,4 +315,6 @@ pub has_begun : (s : Standing) (b : Body) (cur : Current) (h : Head) → IsHeld 
 has_begun s b cur h held e same =
     let o = opened s b cur e held in
     let at_last = subst (λ x. IsHeld x b) o.whole held in
-    subst (λ l. HasBegun l h) (sym at_last.places) (subst (HasBegun (place_lines (counts_of s) (o.before ++ o.piece ∷ []))) (sym (same ∙ o.is_open.current.head)) (begun_there (counts_of s) o.before o.piece))
+    subst (λ l. HasBegun l h) (sym at_last.places) (subst (HasBegun
+    (place_lines (counts_of s) (o.before ++ o.piece ∷ []))) (sym (same ∙ o.is_open.current.head))
+    (begun_there (counts_of s) o.before o.piece))

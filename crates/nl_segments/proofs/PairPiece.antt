@@ -1,5 +1,7 @@
 -- The last piece with a pair more: its pairs, its marks, what is held of it, and the file and the lines with it; and what is there for a pair that was judged.
-use Rattle.std.proofs.Common.{◌≡◌, ◌≢◌, ◌∙◌, ℕ, ◌+◌, ◌<◌, ◌==◌, Bool, true, false, ◌||◌, List, [], ◌∷◌, ◌++◌, length, take, refl, sym, ap, subst, arith, Some, get_or, slice_set, All, if◌then◌else◌, map, Option, nat_lt, ◌≤◌, ◌&&◌, nat_le, ap₂, None}
+use Rattle.std.proofs.Common.{◌≡◌, ◌≢◌, ◌∙◌, ℕ, ◌+◌, ◌<◌, ◌==◌, Bool, true, false, ◌||◌, List, [], ◌∷◌, ◌++◌, length}
+use Rattle.std.proofs.Common.{take, refl, sym, ap, subst, arith, Some, get_or, slice_set, All, if◌then◌else◌, map}
+use Rattle.std.proofs.Common.{Option, nat_lt, ◌≤◌, ◌&&◌, nat_le, ap₂, None}
 use Rattle.std.specs.Prelude.{IsTrue, ℤ, unwrap_or, IfSome, ◌^◌, Ok, IsSomeAnd}
 use Rattle.std.proofs.lemmas.Bool.{eqb-true, eqb-false, eq-eqb, ltb-true, leb-false, cond_both, both_ways, or_parts}
 use Rattle.std.proofs.lemmas.Grind.{get_or-set_at}
@@ -40,7 +42,7 @@ use Rattle.nl_header.specs.Head.{options_in}
 use Rattle.nl_segments.specs.Grammar.{Standing, counts_of}
 use Rattle.nl_lines.proofs.HeadSuffixes.{suffixes_come}
 use Rattle.nl_segments.proofs.PairHeld.{early, held_longer, columns_kept, last_closed, left_closed, nodes_early}
-use Rattle.texts.specs.Judged.{first_reason}
+use Rattle.text_base.specs.Judged.{first_reason}
 use Rattle.nl_lines.specs.declared.fault.NlReason.{NlReason}
 use Rattle.nl_segments.specs.InsideLineSteps.{unless_complete}
 use Rattle.nl_lines.specs.NodeRows.{IsNodeKnown}
@@ -108,7 +110,8 @@ sound_pair c p row t n h =
 pub marks_kept : (head : Head) (marks : List Bool) (i : ℕ) → length (with_mark head marks i) ≡ length marks
 marks_kept head marks i = cond_both (holds_once head) (slice_set marks i true) marks (λ m. length m ≡ length marks) (λ e. length-set marks i true) (λ e. refl)
 
-pub marked_pair : (c : Counts) (p : Piece) (row : NumberedRow) (t : Term) (marks : List Bool) → IsNextPair c p row t → t.0 < length marks → IsMarked c marks p → IsMarked c (with_mark p.head marks t.0) (longer p row)
+pub marked_pair : (c : Counts) (p : Piece) (row : NumberedRow) (t : Term) (marks : List Bool) → IsNextPair c p row t
+    → t.0 < length marks → IsMarked c marks p → IsMarked c (with_mark p.head marks t.0) (longer p row)
 marked_pair c p row t marks n room h once i lt =
     ap (λ b. get_or (if b then slice_set marks t.0 true else marks) i false) once
     ∙ mark_more marks i t.0 room
@@ -119,7 +122,9 @@ marked_pair c p row t marks n room h once i lt =
 
 pub kept_fields : (cur : Current) (t : Term) → ((with_kept cur t).head ≡ cur.head) × ((with_kept cur t).pending ≡ cur.pending) × ((with_kept cur t).nodes ≡ cur.nodes)
 kept_fields cur t =
-    cond_both (keeps_pairs cur.head) (with_pair cur t) (less_line cur) (λ (k : Current). (k.head ≡ cur.head) × (k.pending ≡ cur.pending) × (k.nodes ≡ cur.nodes)) (λ e. (refl, refl, refl)) (λ e. (refl, refl, refl))
+    cond_both (keeps_pairs cur.head) (with_pair cur t) (less_line cur)
+    (λ (k : Current). (k.head ≡ cur.head) × (k.pending ≡ cur.pending) × (k.nodes ≡ cur.nodes))
+    (λ e. (refl, refl, refl)) (λ e. (refl, refl, refl))
 
 pub kept_current : (c : Counts) (p : Piece) (cur : Current) (row : NumberedRow) (t : Term) → IsCurrent c p cur → length p.rows < line_count c p.head → IsCurrent c (longer p row) (with_kept cur t)
 kept_current c p cur row t h within =
@@ -138,8 +143,12 @@ kept_pairs c p cur row t n head h keeps =
 still_open : (c : Counts) (p : Piece) (row : NumberedRow) (i j u : ℕ) → p.head ≡ Definition i j u → length p.rows < j → is_complete c (longer p row) ≡ false
 unfolding awaited_in nodes_from pending_from
 still_open c p row i j u e few =
-    let none : tree_rows (longer p row) ≡ [] = ap (λ h. tree_rows (record { head = h; name = p.name; line = p.line; rows = p.rows ++ row ∷ [] })) e ∙ drop_all j (p.rows ++ row ∷ []) (omega (arith, length-append p.rows (row ∷ []))) in
-    ap (λ h. is_nothing (if nat_lt (length (p.rows ++ row ∷ [])) (line_count c h) then line_kind h else if has_tree h then tree_awaits (nodes_of c.n_var (tree_rows (longer p row))) (pending_from None (tree_rows (longer p row))) else Nothing)) e
+    let none : tree_rows (longer p row) ≡ [] = ap (λ h. tree_rows
+    (record { head = h; name = p.name; line = p.line; rows = p.rows ++ row ∷ [] })) e
+    ∙ drop_all j (p.rows ++ row ∷ []) (omega (arith, length-append p.rows (row ∷ []))) in
+    ap (λ h. is_nothing (if nat_lt (length (p.rows ++ row ∷ [])) (line_count c h) then line_kind h else if has_tree h
+    then tree_awaits (nodes_of c.n_var (tree_rows (longer p row))) (pending_from None (tree_rows (longer p row)))
+    else Nothing)) e
     ∙ by (nat_lt (length (p.rows ++ row ∷ [])) j) (tree_rows (longer p row)) none
   where
     by : (b : Bool) (rows : List NumberedRow) → rows ≡ [] → is_nothing (if b then Pair else tree_awaits (nodes_of c.n_var rows) (pending_from None rows)) ≡ false
@@ -228,7 +237,9 @@ draft_lengths o c pieces = (
 -- ---- uses of variables
 
 -- closing a piece changes suffixes alone
-pub closed_keeps : {A : Type 0} (f : Draft → A) → ((x : Draft) (ss : List SuffixValue) → f (record x { suffixes = ss }) ≡ f x) → (d : Draft) (name : Option (List ℕ)) (cur : Current) → f (with_closed d name cur) ≡ f d
+pub closed_keeps : {A : Type 0} (f : Draft → A) → ((x : Draft) (ss : List SuffixValue)
+    → f (record x { suffixes = ss }) ≡ f x) → (d : Draft) (name : Option (List ℕ)) (cur : Current)
+    → f (with_closed d name cur) ≡ f d
 closed_keeps f keeps d name cur = cond_both (is_nothing (current_awaits cur)) (with_suffix d name cur cur.head) d (λ x. f x ≡ f d) (λ e. same cur.head) (λ e. refl)
   where
     same : (h : Head) → f (with_suffix d name cur h) ≡ f d
@@ -345,7 +356,8 @@ pair_next s b cur row words t same r h =
 -- ---- the file may take it
 
 -- such a head with this name did not come before
-not_before : (s : Standing) (b : Body) (cur : Current) (row : NumberedRow) (t : Term) (n : IsPairNext s b cur row t) (h : Head) → n.parts.piece.head ≡ h → list_any (is_same_piece h n.parts.piece.name) n.parts.before ≡ false
+not_before : (s : Standing) (b : Body) (cur : Current) (row : NumberedRow) (t : Term) (n : IsPairNext s b cur row t)
+    (h : Head) → n.parts.piece.head ≡ h → list_any (is_same_piece h n.parts.piece.name) n.parts.before ≡ false
 not_before s b cur row t n h e = subst (λ x. list_any (is_same_piece x n.parts.piece.name) n.parts.before ≡ false) e (none_before n.parts.before n.parts.piece n.held.sound.apart)
 
 -- what is counted in the file, at most as much as there are linear pairs, has room for one more
@@ -361,13 +373,16 @@ terms_room : (s : Standing) (b : Body) (cur : Current) (row : NumberedRow) (t : 
 terms_room s b cur row t n linear = room_in s b cur row t n (λ d. term_count d.terms) linear (terms_few (options_in s.header) (counts_of s) (n.parts.before ++ n.parts.piece ∷ []))
 
 -- no guess for this index was given
-guesses_apart : (s : Standing) (b : Body) (cur : Current) (row : NumberedRow) (t : Term) (n : IsPairNext s b cur row t) (f : Draft → List Term) (h : Head) → n.parts.piece.head ≡ h → holds_once h ≡ true
+guesses_apart : (s : Standing) (b : Body) (cur : Current) (row : NumberedRow) (t : Term) (n : IsPairNext s b cur row t)
+    (f : Draft → List Term) (h : Head) → n.parts.piece.head ≡ h → holds_once h ≡ true
     → ((d : Draft) (p : Piece) → f (said_by d p h) ≡ f d ++ piece_pairs p) → f (draft_of (options_in s.header) (counts_of s) n.parts.before) ≡ [] → All (λ s. s.0 ≢ t.0) (f b.draft)
 guesses_apart s b cur row t n f h e once said none =
     let p = n.parts.piece in
     let o = options_in s.header in
     let c = counts_of s in
-    let guesses : f b.draft ≡ piece_pairs p = ap f (n.held.draft ∙ draft-append o c n.parts.before p ∙ ap (said_by (draft_of o c n.parts.before) p) e) ∙ said (draft_of o c n.parts.before) p ∙ ap (λ ts. ts ++ piece_pairs p) none in
+    let guesses : f b.draft ≡ piece_pairs p = ap f (n.held.draft ∙ draft-append o c n.parts.before p
+    ∙ ap (said_by (draft_of o c n.parts.before) p) e) ∙ said (draft_of o c n.parts.before) p
+    ∙ ap (λ ts. ts ++ piece_pairs p) none in
     subst (All (λ s. s.0 ≢ t.0)) (sym guesses) (none_has (piece_pairs p) t.0 (n.next.fresh (ap holds_once e ∙ once)))
 
 can_give_by : (s : Standing) (b : Body) (cur : Current) (row : NumberedRow) (t : Term) (n : IsPairNext s b cur row t) (h : Head) → n.parts.piece.head ≡ h → CanGive b.draft h t
@@ -398,7 +413,8 @@ can_give_by s b cur row t n (Slopes i k) e =
     (omega arith, omega arith, room_in s b cur row t n (λ d. length (get_or d.slopes i [])) (ap is_linear e) (slopes_few (options_in s.header) (counts_of s) (n.parts.before ++ n.parts.piece ∷ []) i))
 can_give_by s b cur row t n head e = tt
 
-can_close_by : (s : Standing) (b : Body) (cur : Current) (row : NumberedRow) (t : Term) (n : IsPairNext s b cur row t) (h : Head) → n.parts.piece.head ≡ h → CanClose (with_given b.draft h t) b.name (with_kept cur t) h
+can_close_by : (s : Standing) (b : Body) (cur : Current) (row : NumberedRow) (t : Term) (n : IsPairNext s b cur row t)
+    (h : Head) → n.parts.piece.head ≡ h → CanClose (with_given b.draft h t) b.name (with_kept cur t) h
 can_close_by s b cur row t n (Suffix kind k) e =
     let p = n.parts.piece in
     let o = options_in s.header in
@@ -506,7 +522,8 @@ uses_done s old new cur row t n d j lt =
     ∙ uses_pair c old.draft p.head t old.uses j n.held.users n.next.below rows n.range (n.held.uses j lt)
     ∙ sym (ap (λ x. use_count x j) (ap (λ x. x.terms) d.draft ∙ closed_keeps (λ x. x.terms) (λ x ss. refl) (with_given old.draft p.head t) old.name (with_kept cur t)))
 
-pub pair_held : (s : Standing) (old new : Body) (cur : Current) (head : Head) (row : NumberedRow) (t : Term) → (n : IsPairNext s old cur row t) → old.current ≡ Some cur → head ≡ cur.head → IsPairDone old new cur head t row.line
+pub pair_held : (s : Standing) (old new : Body) (cur : Current) (head : Head) (row : NumberedRow) (t : Term)
+    → (n : IsPairNext s old cur row t) → old.current ≡ Some cur → head ≡ cur.head → IsPairDone old new cur head t row.line
     → IsHeld (at s.header (n.parts.before ++ longer n.parts.piece row ∷ [])) new
 pair_held s old new cur head row t n cur_is of done =
     let p = n.parts.piece in
@@ -535,7 +552,10 @@ pair_held s old new cur head row t n cur_is of done =
         current = kept;
         pairs = pairs;
         known = subst (λ ns. All (IsNodeKnown c.n_var new.draft.definitions) ns) (sym same.2)
-            (subst (λ ds. All (IsNodeKnown c.n_var ds) cur.nodes) (sym (ap (λ x. x.definitions) d.draft ∙ closed_keeps (λ x. x.definitions) (λ x ss. refl) (with_given old.draft p.head t) old.name (with_kept cur t) ∙ given_definitions old.draft p.head t)) now.known);
+            (subst (λ ds. All (IsNodeKnown c.n_var ds) cur.nodes)
+            (sym (ap (λ x. x.definitions) d.draft ∙ closed_keeps (λ x. x.definitions) (λ x ss. refl)
+            (with_given old.draft p.head t) old.name (with_kept cur t) ∙ given_definitions old.draft p.head t))
+            now.known);
         named = λ is. name_open _ old.name new.name d.name (closes ∙ f) ∙ now.named is;
       });
       marks = subst (λ m. IsMarked c m (longer p row)) (sym d.marks) (marked_pair c p row t old.marks n.next n.room n.marks);
@@ -549,13 +569,16 @@ pair_held s old new cur head row t n cur_is of done =
       seen = d.seen;
       nodes = d.nodes ∙ h.nodes ∙ sym (nodes_early c before p row n.next.within);
       suffixes = d.suffixes;
-      few = rw d.nodes (left_closed (with_kept cur t) new.current old.nodes d.current (subst (λ x. IfSome x (λ q. old.nodes < 2 ^ 22)) (sym same.1) (subst (λ x. IsNodeLeft x old.nodes) cur_is h.few)));
+      few = rw d.nodes (left_closed (with_kept cur t) new.current old.nodes d.current
+          (subst (λ x. IfSome x (λ q. old.nodes < 2 ^ 22)) (sym same.1)
+          (subst (λ x. IsNodeLeft x old.nodes) cur_is h.few)));
       few_terms = still_few p.head old.linear new.linear h.few_terms n.few d.linear;
     })
 
 -- ---- the answers
 
-judged_pair : (s : Standing) (b : Body) (cur : Current) (words : List (List ℕ)) (full : Bool) → b.current ≡ Some cur → IsAwaiting Pair b → is_head words ≡ false → full ≡ is_full_at cur.head b.linear b.values → IsHeld s b
+judged_pair : (s : Standing) (b : Body) (cur : Current) (words : List (List ℕ)) (full : Bool) → b.current ≡ Some cur
+    → IsAwaiting Pair b → is_head words ≡ false → full ≡ is_full_at cur.head b.linear b.values → IsHeld s b
     → words_refusal s words ≡ first_reason (next_pair_tests b.draft.counts cur.head b.marks full words)
 judged_pair s b cur words full e a plain full_by h =
     let o = opened s b cur e h in
@@ -567,7 +590,9 @@ judged_pair s b cur words full e a plain full_by h =
     ∙ same_pair_tests c s.pieces o.piece words b.marks full marks full_said
     ∙ sym (ap (λ k. first_reason (next_pair_tests k cur.head b.marks full words)) h.counts ∙ ap (λ x. first_reason (next_pair_tests c x b.marks full words)) head)
 
-pub pair_step : (old new : Body) (cur : Current) (head : Head) (words : List (List ℕ)) (line : ℕ) (t : Term) (full : Bool) → head ≡ cur.head → is_head words ≡ false → IsRead old cur words t → full ≡ is_full_at cur.head old.linear old.values
+pub pair_step : (old new : Body) (cur : Current) (head : Head) (words : List (List ℕ)) (line : ℕ) (t : Term)
+    (full : Bool) → head ≡ cur.head → is_head words ≡ false → IsRead old cur words t
+    → full ≡ is_full_at cur.head old.linear old.values
     → first_reason (next_pair_tests old.draft.counts cur.head old.marks full words) ≡ None → IsPairDone old new cur head t line → TakesRow old words line (Ok tt) new
 pair_step old new cur head words line t full of plain r full_by fine d =
     last_taken old new cur words line plain (λ s h. judged_pair s old cur words full r.current r.awaits plain full_by h ∙ fine) (λ s row is h.
@@ -575,7 +600,9 @@ pair_step old new cur head words line t full of plain r full_by fine d =
     (n.parts, pair_held s old new cur head row t n r.current of (subst (IsPairDone old new cur head t) (sym is.same_line) d)))
 
 -- by the parts that reading took
-pub refused_by : (b : Body) (cur : Current) (words : List (List ℕ)) (counts : Counts) (head : Head) (full : Bool) (r : NlReason) → b.current ≡ Some cur → IsAwaiting Pair b → is_head words ≡ false → counts ≡ b.draft.counts → head ≡ cur.head
+pub refused_by : (b : Body) (cur : Current) (words : List (List ℕ)) (counts : Counts) (head : Head) (full : Bool)
+    (r : NlReason) → b.current ≡ Some cur → IsAwaiting Pair b → is_head words ≡ false → counts ≡ b.draft.counts
+    → head ≡ cur.head
     → full ≡ is_full_at head b.linear b.values → first_reason (next_pair_tests counts head b.marks full words) ≡ Some r → (s : Standing) → IsHeld s b → words_refusal s words ≡ Some r
 refused_by b cur words counts head full r current awaits plain counts_is head_is full_is fault s h =
     judged_pair s b cur words full current awaits plain (full_is ∙ ap (λ x. is_full_at x b.linear b.values) head_is) h
@@ -611,7 +638,9 @@ read_of b head t words p good =
 pub can_keep : (b : Body) (head : Head) (t : Term) (line : ℕ) → IsPiece b head → HasGoodPair b head t line → HoldsSome b → CanTake b head t
 can_keep b head t line p some held = can_take b p.cur head some.words line t p.is some.exists held (read_of b head t some.words p some.good)
 
-pub kept : (old new : Body) (head : Head) (t : Term) (line : ℕ) (p : IsPiece old head) → IsPairDone old new p.cur head t line → (words : List (List ℕ)) → IsGoodPair old head t words → TakesRow old words line (Ok tt) new
+pub kept : (old new : Body) (head : Head) (t : Term) (line : ℕ) (p : IsPiece old head)
+    → IsPairDone old new p.cur head t line → (words : List (List ℕ)) → IsGoodPair old head t words
+    → TakesRow old words line (Ok tt) new
 kept b new head t line p done words good =
     pair_step b new p.cur head words line t (is_full_at head b.linear b.values) p.is good.plain (read_of b head t words p good) (ap (λ h. is_full_at h b.linear b.values) p.is)
     (ap (λ h. first_reason (next_pair_tests b.draft.counts h b.marks (is_full_at head b.linear b.values) words)) (sym p.is) ∙ good.fine) done

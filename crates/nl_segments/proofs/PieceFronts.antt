@@ -1,6 +1,6 @@
 -- A head, and the line behind it where that is all of its piece, that are taken at once.
 use Rattle.std.proofs.Common.{◌≡◌, ◌∙◌, ℕ, ◌+◌, ◌<◌, ◌^◌, true, List, [], ◌∷◌, get_or, slice_set, refl, sym, ap, arith, subst, Option, Some, None}
-use Rattle.nl_meaning.specs.Trees.{Tree}
+use Rattle.nl_model.specs.Trees.{Tree}
 use Rattle.nl_model.specs.Draft.{Draft}
 use Rattle.nl_lines.specs.declared.awaited.Awaited.TheVariants.{Node as NodeLine}
 use Rattle.nl_lines.specs.declared.head.Head.{Head}
@@ -26,7 +26,8 @@ use Rattle.nl_segments.proofs.TreeLaw.{tree_within}
 -- ---- the head alone
 
 -- what is held after it
-pub with_passed : (b passed : Body) (draft : Draft) (h : Head) (line : ℕ) (cur : Option Current) → draft ≡ b.draft → passed ≡ with_head_passed (record b { draft = draft }) h line → cur ≡ begun_current draft.counts h line
+pub with_passed : (b passed : Body) (draft : Draft) (h : Head) (line : ℕ) (cur : Option Current) → draft ≡ b.draft
+    → passed ≡ with_head_passed (record b { draft = draft }) h line → cur ≡ begun_current draft.counts h line
     → record passed { current = cur } ≡ with_given_head b h line
 with_passed b passed draft h line cur d p c =
     ap (λ (x : Body). record x { current = cur }) p ∙ (λ i. record (with_head_passed b h line) { draft = d i; current = (c ∙ ap (λ (x : Draft). begun_current x.counts h line) d) i })
@@ -59,14 +60,22 @@ module _ (b : Body) (h : Head) (con line : ℕ) (text : List ℕ) (len : ℕ) (t
   pub few_nodes : b.nodes < 2 ^ 22
   few_nodes = leaf_few (with_given_head b (BodyHead con) line) text len e.1.leaf (Whole e.1.node) e.1.first e.1.read
 
-  pub leaf_taken : (passed : Body) (draft : Draft) (places : PlaceLines) → draft ≡ record b.draft { bodies = slice_set b.draft.bodies con (Some tree) } → passed ≡ with_head_passed (record b { draft = draft }) (BodyHead con) line
+  pub leaf_taken : (passed : Body) (draft : Draft) (places : PlaceLines)
+      → draft ≡ record b.draft { bodies = slice_set b.draft.bodies con (Some tree) }
+      → passed ≡ with_head_passed (record b { draft = draft }) (BodyHead con) line
       → places ≡ with_node_run passed.places (line + 1) 1 (BodyHead con)
       → TakesLines (with_given_head b h line) text (line + 1) (record { len = len; lines = 1 }) (record passed { nodes = passed.nodes + 1; places = places })
   leaf_taken passed draft places given p lines =
       let run = with_node_run (with_begun b.places line (BodyHead con)) (line + 1) 1 (BodyHead con) in
       let same : record (with_given_head b (BodyHead con) line) { draft = draft; current = None; nodes = b.nodes + 1; places = run } ≡ record passed { nodes = passed.nodes + 1; places = places } =
       sym (ap (λ (x : Body). record x { nodes = x.nodes + 1; places = places }) p
-      ∙ (λ i. record (with_given_head b (BodyHead con) line) { draft = draft; current = may.closed i; nodes = b.nodes + 1; places = (lines ∙ ap (λ (x : Body). with_node_run x.places (line + 1) 1 (BodyHead con)) p) i })) in
+      ∙ (λ i. record (with_given_head b (BodyHead con) line) {
+        draft = draft;
+        current = may.closed i;
+        nodes = b.nodes + 1;
+        places =
+            (lines ∙ ap (λ (x : Body). with_node_run x.places (line + 1) 1 (BodyHead con)) p) i;
+      })) in
       subst (λ x. TakesLines (with_given_head b x line) text (line + 1) (record { len = len; lines = 1 }) (record passed { nodes = passed.nodes + 1; places = places })) (sym e.0)
       (subst (TakesLines (with_given_head b (BodyHead con) line) text (line + 1) (record { len = len; lines = 1 })) same
       (leaf_first (with_given_head b (BodyHead con) line) text (line + 1) len e.1.leaf (Whole e.1.node) 1 draft None run awaits_node e.1.first e.1.read refl refl
@@ -97,17 +106,23 @@ module _ (b : Body) (con line : ℕ) (text : List ℕ) (p : FirstPair) (may_begi
       can_term b.draft b.draft b.uses b.uses (Terms con 1) 1 text (record { len = 0; lines = 0 }) p
       (record { body = Begun; current = piece; is = begun; held = may_begin.held }) (omega arith) (no_term 1) next.first next.below
 
-  pub term_taken_at_once : (passed : Body) (draft : Draft) (uses : List ℕ) (places : PlaceLines) → draft ≡ with_given b.draft (Terms con 1) (p.index, p.value) → uses ≡ with_use (Terms con 1) b.uses p.index
+  pub term_taken_at_once : (passed : Body) (draft : Draft) (uses : List ℕ) (places : PlaceLines)
+      → draft ≡ with_given b.draft (Terms con 1) (p.index, p.value) → uses ≡ with_use (Terms con 1) b.uses p.index
       → passed ≡ with_head_passed (record b { draft = draft; uses = uses; linear = b.linear + 1 }) (Terms con 1) line → places ≡ with_term_run passed.places (line + 1) 1 (Terms con 1)
       → TakesLines Begun text (line + 1) (record { len = p.len; lines = 1 }) (record passed { places = places })
   term_taken_at_once passed draft uses places given used e lines =
       let same : with_counted (with_parts Begun draft uses) piece (line + 1) 1 ≡ record passed { places = places } =
       sym (ap (λ (x : Body). record x { places = places }) e
-      ∙ (λ i. record (with_counted (with_parts Begun draft uses) piece (line + 1) 1) { current = may_begin.closed i; places = (lines ∙ ap (λ (x : Body). with_term_run x.places (line + 1) 1 (Terms con 1)) e) i })) in
+      ∙ (λ i. record (with_counted (with_parts Begun draft uses) piece (line + 1) 1) {
+        current = may_begin.closed i;
+        places = (lines
+            ∙ ap (λ (x : Body). with_term_run x.places (line + 1) 1 (Terms con 1)) e) i;
+      })) in
       let none : 0 + p.len ≡ p.len = omega arith in
       subst (TakesLines Begun text (line + 1) (record { len = p.len; lines = 1 })) same
       (subst (λ (len : ℕ). TakesLines Begun text (line + 1) (record { len = len; lines = 1 }) (with_counted (with_parts Begun draft uses) piece (line + 1) 1)) none
-      (term_taken Begun piece (Terms con 1) 1 (line + 1) b.draft draft b.uses uses text (record { len = 0; lines = 0 }) p begun.awaits (omega arith) (no_term (line + 1)) next.first next.below given used))
+      (term_taken Begun piece (Terms con 1) 1 (line + 1) b.draft draft b.uses uses text (record { len = 0; lines = 0 })
+      p begun.awaits (omega arith) (no_term (line + 1)) next.first next.below given used))
 
 -- ---- the lines of what is begun
 

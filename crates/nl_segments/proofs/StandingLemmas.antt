@@ -1,18 +1,20 @@
 -- What a line more does to what lines mean and to the whole reader, and what it answers; terms that are taken at once.
-use Rattle.std.proofs.Common.{◌≡◌, ◌∙◌, ℕ, ◌+◌, ◌<◌, ◌≤◌, Bool, true, false, if◌then◌else◌, List, [], ◌∷◌, ◌++◌, length, take, drop, map, refl, sym, ap, ap₂, arith, nat_lt, not, ◌==◌, Bor, subst, suc, Some, None, Option, append-nil, length-append, ◌-◌, get_or, zero, append_assoc, ◌&&◌, slice_set}
+use Rattle.std.proofs.Common.{◌≡◌, ◌∙◌, ℕ, ◌+◌, ◌<◌, ◌≤◌, Bool, true, false, if◌then◌else◌, List, [], ◌∷◌, ◌++◌, length}
+use Rattle.std.proofs.Common.{take, drop, map, refl, sym, ap, ap₂, arith, nat_lt, not, ◌==◌, Bor, subst, suc, Some}
+use Rattle.std.proofs.Common.{None, Option, append-nil, length-append, ◌-◌, get_or, zero, append_assoc, ◌&&◌, slice_set}
 use Rattle.std.proofs.lemmas.Bool.{ltb-true, ltb-false, lt-ltb, lt-leb}
 use Rattle.std.proofs.lemmas.List.{length-map, length-take-le, map-append, take-append-le, take_all, drop_all, drop-append-le}
 use Rattle.std.proofs.lemmas.List.Sums.{fold-append}
-use Rattle.texts.specs.Words.{words_of, without_comment, row_of, texts}
+use Rattle.text_base.specs.Words.{words_of, without_comment, row_of, texts}
 use Rattle.nl_header.specs.Head.{counts_in}
 use Rattle.nl_lines.specs.Rows.{NumberedRow, holds_words, rows_from, rows_of, header_words}
 use Rattle.nl_lines.specs.Pieces.{with_row, pieces_of, is_nothing, keeps_pairs, line_kind}
 use Rattle.nl_segments.specs.Grammar.{Standing, standing, is_in_header, line_refusal, end_refusal, reason_of, nl_rules, SaysFile}
 use Rattle.nl_segments.specs.Steps.{after, after_row}
 use Rattle.std.specs.Prelude.{Result, Ok, Err, IfErr, IfOk, IsSomeAnd}
-use Rattle.texts.specs.Stopped.{IfFault}
-use Rattle.texts.specs.declared.stop.Stop.{Stop}
-use Rattle.texts.specs.declared.stop.Stop.TheVariants.{Fault, Memory}
+use Rattle.text_base.specs.Stopped.{IfFault}
+use Rattle.text_base.specs.declared.stop.Stop.{Stop}
+use Rattle.text_base.specs.declared.stop.Stop.TheVariants.{Fault, Memory}
 use Rattle.nl_header.specs.declared.fault.HeadFault.{HeadFault}
 use Rattle.nl_header.specs.Reading.{Taken, IsReading, Takes as TakesRowOfHeader}
 use Rattle.nl_model.specs.declared.header.Header.{Header}
@@ -22,17 +24,17 @@ use Rattle.nl_segments.specs.declared.nl_read.NlRead.{NlRead}
 use Rattle.nl_segments.specs.Held.{Body, Progress, in_header, in_body, IsHeld, IsHeaderOf, only_header, HoldsStanding, TakesRow, Finishes, HoldsSome}
 use Rattle.nl_segments.specs.InsideTaking.{Takes, TakesBodyLine, TakesLine}
 use Rattle.nl_lines.proofs.PieceLemmas.{some_are}
-use Rattle.texts.specs.declared.fault.TextFault.{TextFault}
-use Rattle.texts.specs.Reading.{HasFaultSoFar, Reads}
+use Rattle.text_base.specs.declared.fault.TextFault.{TextFault}
+use Rattle.text_base.specs.Reading.{HasFaultSoFar, Reads}
 use Rattle.nl_lines.specs.declared.fault.NlFault.{NlFault}
 use Rattle.nl_segments.specs.Reader.{stop_of, ReadsNl, HasNlFaultSoFar, value_of}
 use Rattle.std.specs.List.{range_with_len}
-use Rattle.line_places.proofs.RunLemmas.{range_parts}
-use Rattle.texts.specs.Fronts.{IsFront, TakesFront}
-use Rattle.texts.specs.Judged.{Open, IsClean, first_reason}
-use Rattle.texts.specs.declared.grammar.Front.{Front}
-use Rattle.texts.proofs.FrontLemmas.{front_joined}
-use Rattle.texts.proofs.JudgedLemmas.{clean_more}
+use Rattle.nl_lines.proofs.RunLemmas.{range_parts}
+use Rattle.text_base.specs.Fronts.{IsFront, TakesFront}
+use Rattle.text_base.specs.Judged.{Open, IsClean, first_reason}
+use Rattle.text_base.specs.declared.grammar.Front.{Front}
+use Rattle.text_base.proofs.FrontLemmas.{front_joined}
+use Rattle.text_base.proofs.JudgedLemmas.{clean_more}
 use Rattle.nl_model.specs.declared.header_counts.Counts.{Counts}
 use Rattle.nl_model.specs.Draft.{Draft}
 use Rattle.nl_model.specs.File.{Term}
@@ -147,7 +149,8 @@ unfolding line_refusal
 no_row held line n none = λ s h. (rw none refl, rw none h)
 
 -- a row of the body
-pub some_row : (old new : Body) (line : List ℕ) (n : ℕ) (r : Result (Unit {0}) (Stop NlReason)) → holds_words line ≡ true → TakesRow old (row_of (without_comment line)) n r new → TakesBodyLine old line n r new
+pub some_row : (old new : Body) (line : List ℕ) (n : ℕ) (r : Result (Unit {0}) (Stop NlReason))
+    → holds_words line ≡ true → TakesRow old (row_of (without_comment line)) n r new → TakesBodyLine old line n r new
 unfolding line_refusal
 some_row old new line n (Ok u) some takes = λ s h. rw (some, h.body) (takes s (record { line = n; text = without_comment line }) (record { same_words = refl; same_line = refl }) h)
 some_row old new line n (Err (Fault f)) some takes = λ s h. rw (some, h.body) (takes s h)
@@ -165,12 +168,22 @@ module _ (old : Taken) (line : List ℕ) (n : ℕ) (some : holds_words line ≡ 
       let more : is_in_header (record { header = s.header ++ words_of (without_comment line) ∷ []; pieces = s.pieces }) ≡ true = lt-ltb _ _ (omega (arith, few, goes.reading.count)) in
       rw (some, h.0) (rw goes.clean refl, (more, h.1, goes.reading))
 
-  pub header_last : (header : Header) (new : Taken) (b : Body) → Next (Ok (Some header)) new → ((rows : List (List (List ℕ))) → IsHeaderOf rows header.options header.counts → IsHeld (only_header rows) b)
+  pub header_last : (header : Header) (new : Taken) (b : Body) → Next (Ok (Some header)) new
+      → ((rows : List (List (List ℕ))) → IsHeaderOf rows header.options header.counts → IsHeld (only_header rows) b)
       → TakesLine (in_header old) line n (Ok tt) (in_body b)
   unfolding line_refusal
   header_last header new b takes begun = λ s h.
       let ends = takes s.header h.2 in
-      rw (some, h.0) ((rw ends.clean refl), rw h.1 (begun (s.header ++ words_of (without_comment line) ∷ []) (record { whole = rw ends.says.count refl; same_options = sym ends.says.options; same_counts = sym ends.says.counts })))
+      rw (some, h.0) (
+        (rw ends.clean refl),
+        rw h.1 (begun (s.header ++ words_of (without_comment line) ∷ [])
+            (record {
+              whole = rw ends.says.count refl;
+              same_options = sym ends.says.options;
+              same_counts =
+                  sym ends.says.counts;
+            })),
+      )
 
   pub header_refused : (fault : HeadFault) (new : Taken) → Next (Err fault) new → TakesLine (in_header old) line n (Err (Fault (reason_of fault))) (in_header new)
   unfolding line_refusal
@@ -189,7 +202,8 @@ end_in_header t g same s h =
     let held : HoldsStanding s (in_header t) = subst (HoldsStanding s) (sym same) h in
     rw held.0 refl
 
-pub end_fine : (b : Body) (g : Progress) → in_body b ≡ g → (r : Result NlRead (Stop NlReason)) → Finishes b r → IfOk r (λ value. (lines : List (List ℕ)) → HoldsStanding (standing lines) g → end_refusal (standing lines) ≡ None)
+pub end_fine : (b : Body) (g : Progress) → in_body b ≡ g → (r : Result NlRead (Stop NlReason)) → Finishes b r
+    → IfOk r (λ value. (lines : List (List ℕ)) → HoldsStanding (standing lines) g → end_refusal (standing lines) ≡ None)
 unfolding end_refusal
 end_fine b g same (Ok value) finishes = λ lines h.
     let held : IsHeld (standing lines) b = subst (HoldsStanding (standing lines)) (sym same) h in
@@ -229,7 +243,8 @@ answered text Memory answer e h = rw e tt
 
 -- ---- lines after one another
 
-goes_joined : (s : Standing) (number next : ℕ) (xs ys : List (List ℕ)) (mid new : Body) → GoesOn s number xs mid → next ≡ number + length xs → ((s : Standing) → IsHeld s mid → GoesOn s next ys new) → GoesOn s number (xs ++ ys) new
+goes_joined : (s : Standing) (number next : ℕ) (xs ys : List (List ℕ)) (mid new : Body) → GoesOn s number xs mid
+    → next ≡ number + length xs → ((s : Standing) → IsHeld s mid → GoesOn s next ys new) → GoesOn s number (xs ++ ys) new
 goes_joined s number next [] ys mid new g e more =
     let same : next ≡ number = omega (arith, e) in
     subst (λ n. GoesOn s n ys new) same (more s g)
@@ -245,7 +260,8 @@ goes_on old mid new piece rest number f g h is k = record {
 }
 
 -- a row that the text begins with
-pub row_first : (old new : Body) (piece : List ℕ) (number len : ℕ) (says : List (List ℕ) → Type 0) → IsFirstRow piece len says → ((words : List (List ℕ)) → says words → (more : ℕ) × (length words ≡ suc more))
+pub row_first : (old new : Body) (piece : List ℕ) (number len : ℕ) (says : List (List ℕ) → Type 0)
+    → IsFirstRow piece len says → ((words : List (List ℕ)) → says words → (more : ℕ) × (length words ≡ suc more))
     → ((words : List (List ℕ)) → says words → TakesRow old words number (Ok tt) new) → TakesLines old piece number (record { len = len; lines = 1 }) new
 row_first old new piece number len says r counted step =
     let some = counted (row_of (without_comment r.line)) r.row in
@@ -423,7 +439,8 @@ module _ (b : Body) (cur : Current) (head : Head) (most first n : ℕ) (d : Draf
 
 -- ---- a line more
 
-pub term_taken : (b : Body) (cur : Current) (head : Head) (most number : ℕ) (d d_new : Draft) (uses uses_new : List ℕ) (piece : List ℕ) (front : Front) (p : FirstPair) → AwaitsTerms b cur head most → front.lines < most
+pub term_taken : (b : Body) (cur : Current) (head : Head) (most number : ℕ) (d d_new : Draft) (uses uses_new : List ℕ)
+    (piece : List ℕ) (front : Front) (p : FirstPair) → AwaitsTerms b cur head most → front.lines < most
     → TakesLines b piece number front (with_counted (with_parts b d uses) cur number front.lines) → IsFirstPair (drop front.len piece) p → p.index < d.counts.n_var
     → d_new ≡ with_given d head (p.index, p.value) → uses_new ≡ with_use head uses p.index
     → TakesLines b piece number (record { len = front.len + p.len; lines = front.lines + 1 }) (with_counted (with_parts b d_new uses_new) cur number (front.lines + 1))
@@ -439,7 +456,8 @@ term_taken b cur head most number d d_new uses uses_new piece front p a lt h fir
     let is_done = done b cur head most number n d uses a lt words t first.pair below d_new uses_new given used in
     let step : TakesBodyLine old line (number + n) (Ok tt) new =
     some_row old new line (number + n) (Ok tt) (words_held line 1 first.pair.two)
-    (pair_step old new (less_lines cur n) head words (number + n) t false (sym a.same_head) (pair_plain words t first.pair) is_read (sym (free b cur head most number n d uses a lt)) is_fine is_done) in
+    (pair_step old new (less_lines cur n) head words (number + n) t false (sym a.same_head)
+    (pair_plain words t first.pair) is_read (sym (free b cur head most number n d uses a lt)) is_fine is_done) in
     goes_on b old new piece (drop front.len piece) number front (record { len = p.len; lines = 1 }) h refl (record { lines = line ∷ []; is = first.first; goes = step })
 
 pub can_term : (d_old d : Draft) (uses_old uses : List ℕ) (head : Head) (most : ℕ) (piece : List ℕ) (front : Front) (p : FirstPair) (h : HasBodyOf d_old uses_old head most) → front.lines < most
@@ -449,7 +467,8 @@ can_term d_old d uses_old uses head most piece front p h lt takes first below =
     let now = with_counted (with_parts h.body d uses) h.current 1 front.lines in
     let row : NumberedRow = record { line = 1; text = without_comment first.line } in
     let t : Term = (p.index, p.value) in
-    can_take now (less_lines h.current front.lines) head (row_of row.text) 1 t (sym h.is.awaits.same_head) (row, record { same_words = refl; same_line = refl }) (still_some h.body now piece 1 front takes h.held)
+    can_take now (less_lines h.current front.lines) head (row_of row.text) 1 t (sym h.is.awaits.same_head)
+    (row, record { same_words = refl; same_line = refl }) (still_some h.body now piece 1 front takes h.held)
     (read h.body h.current head most 1 front.lines d uses h.is.awaits lt (row_of row.text) t first.pair below)
 
 -- ---- before any term

@@ -1,6 +1,6 @@
 -- A tree whose nodes use what is there uses what is there.
 use Rattle.std.proofs.Common.{◌≡◌, ℕ, suc, List, [], ◌∷◌, ◌++◌, sym, subst, arith, All}
-use Rattle.nl_meaning.specs.Trees.{Tree, Trees}
+use Rattle.nl_model.specs.Trees.{Tree, Trees}
 use Rattle.nl_model.specs.File.{Term}
 use Rattle.nl_model.specs.declared.definition.Def.{Def as Definition}
 use Rattle.nl_model.specs.declared.node.Node.{Node}

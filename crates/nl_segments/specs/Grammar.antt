@@ -1,10 +1,10 @@
 -- The grammar of .nl texts: which have no fault, what they say, and what is the first fault of the
 -- others.
 use Rattle.std.specs.Prelude.{◌≡◌, ℕ, Bool, nat_lt, List, length, drop, Option, Some, None, option_map, if◌then◌else◌}
-use Rattle.texts.specs.Judged.{Rules, first_reason}
-use Rattle.texts.specs.Words.{words_of, row_of, without_comment}
-use Rattle.texts.specs.declared.lines.LineFault.{LineFault}
-use Rattle.texts.specs.declared.lines.LineFault.TheVariants.{LineTooLong as LongLine, InputTooLong as LongInput}
+use Rattle.text_base.specs.Judged.{Rules, first_reason}
+use Rattle.text_base.specs.Words.{words_of, row_of, without_comment}
+use Rattle.text_base.specs.declared.lines.LineFault.{LineFault}
+use Rattle.text_base.specs.declared.lines.LineFault.TheVariants.{LineTooLong as LongLine, InputTooLong as LongInput}
 use Rattle.nl_header.specs.Head.{header_line_fault, options_in, counts_in}
 use Rattle.nl_header.specs.declared.fault.HeadFault.{HeadFault}
 use Rattle.nl_header.specs.declared.fault.HeadFault.TheVariants.{BinaryFile as BinaryHead, BadFirstLine as BadFirst, Options as BadOptions, BadHeaderNumber as BadNumberInHeader, CountsDisagree as Disagree, RefusedCount as Refused, TooLarge as Large}

@@ -1,9 +1,9 @@
 -- What the reader of the body holds, and how this stands to what the lines mean.
 use Rattle.std.specs.Prelude.{◌≡◌, ℕ, ℤ, nat_lt, IsSomeAnd, ◌<◌, ◌≤◌, ◌^◌, Bool, true, false, IsTrue, List, [], ◌∷◌, ◌++◌, length, take, get_or, Option, Some, None, IfSome, Result, Ok, Err, All, AllPairs}
 use Rattle.std.specs.List.{list_any}
-use Rattle.texts.specs.declared.stop.Stop.{Stop}
-use Rattle.texts.specs.declared.stop.Stop.TheVariants.{Fault, Memory}
-use Rattle.texts.specs.Judged.{first_reason}
+use Rattle.text_base.specs.declared.stop.Stop.{Stop}
+use Rattle.text_base.specs.declared.stop.Stop.TheVariants.{Fault, Memory}
+use Rattle.text_base.specs.Judged.{first_reason}
 use Rattle.nl_model.specs.declared.header_counts.Counts.{Counts}
 use Rattle.nl_model.specs.Draft.{Draft, file_of}
 use Rattle.nl_header.specs.Head.{options_in, counts_in}

@@ -1,9 +1,9 @@
 -- The codes of what readers hold, by which proofs tell them apart: those of their parts.
 use Rattle.std.specs.Prelude.{ℕ, Bool, List, Option, Some, None, Result, Ok, Err, refl, ◌≡◌}
 use Rattle.std.specs.Coded.{Coded, code_by, coded×, coded_ℕ, coded_bool, coded_list, coded_option, coded_result}
-use Rattle.texts.specs.declared.stop.Stop.{Stop}
-use Rattle.texts.specs.declared.stop.Stop.TheVariants.{Fault, Memory}
-use Rattle.texts.specs.declared.fault.TextFault.{TextFault}
+use Rattle.text_base.specs.declared.stop.Stop.{Stop}
+use Rattle.text_base.specs.declared.stop.Stop.TheVariants.{Fault, Memory}
+use Rattle.text_base.specs.declared.fault.TextFault.{TextFault}
 use Rattle.nl_header.specs.contracts.reader.HeaderReader.{the_row as header_row}
 use Rattle.nl_header.specs.Reading.{Taken}
 use Rattle.nl_model.specs.Draft.{Draft}

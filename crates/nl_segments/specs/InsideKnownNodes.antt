@@ -1,6 +1,6 @@
 -- A row with a node, which is kept: what is read of it, and that nothing is wrong with it.
 use Rattle.std.specs.Prelude.{◌≡◌, ℕ, false, List, None}
-use Rattle.texts.specs.Judged.{first_reason}
+use Rattle.text_base.specs.Judged.{first_reason}
 use Rattle.nl_lines.specs.declared.node_row.NodeRow.{NodeRow}
 use Rattle.nl_lines.specs.Heads.{is_head}
 use Rattle.nl_segments.specs.InsideTreeSteps.{IsNextRow, counted_node_tests}

@@ -1,6 +1,6 @@
 -- A row that is an index and a value alone, and that its pair is kept.
 use Rattle.std.specs.Prelude.{◌≡◌, ℕ, false, List, None}
-use Rattle.texts.specs.Judged.{first_reason}
+use Rattle.text_base.specs.Judged.{first_reason}
 use Rattle.nl_model.specs.File.{Term}
 use Rattle.nl_lines.specs.declared.head.Head.{Head}
 use Rattle.nl_lines.specs.Heads.{is_head}

@@ -1,8 +1,8 @@
 -- A head, and the line behind it where that is all of its piece, which are taken at once.
 use Rattle.std.specs.Prelude.{◌≡◌, ◌<◌, ◌+◌, ℕ, List, ◌∷◌, [], length, replicate, false, true, Option, Some, None, Ok}
-use Rattle.texts.specs.Judged.{Decides}
-use Rattle.texts.specs.declared.grammar.Front.{Front}
-use Rattle.nl_meaning.specs.Trees.{Tree}
+use Rattle.text_base.specs.Judged.{Decides}
+use Rattle.text_base.specs.declared.grammar.Front.{Front}
+use Rattle.nl_model.specs.Trees.{Tree}
 use Rattle.nl_model.specs.declared.node.Node.{Node}
 use Rattle.nl_model.specs.Draft.{Draft}
 use Rattle.nl_model.specs.Nodes.{AreNodesOf, awaited, tree_of}

@@ -4,8 +4,8 @@ use Rattle.std.specs.Option.{option_or}
 use Rattle.nl_lines.specs.declared.head.Head.{Head}
 use Rattle.nl_lines.specs.declared.head.Head.TheVariants.{Body, Objective, Definition, Terms, Slopes}
 use Rattle.nl_lines.specs.Saying.{OwnerLines, PlaceLines, changed, no_lines}
-use Rattle.line_places.specs.InsideLineRuns.{follows}
-pub use Rattle.line_places.specs.Owners.{more_node_run, more_term_run}
+use Rattle.nl_lines.specs.InsideLineRuns.{follows}
+pub use Rattle.nl_lines.specs.Owners.{more_node_run, more_term_run}
 
 -- a head in this line
 abbrev pub with_begun : PlaceLines → ℕ → Head → PlaceLines

@@ -1,7 +1,7 @@
 -- Terms of a constraint or an objective, a line each, that are taken at once.
 use Rattle.std.specs.Prelude.{◌≡◌, ℕ, ◌+◌, ◌<◌, ◌≤◌, true, false, List, [], ◌∷◌, Some, None, if◌then◌else◌}
-use Rattle.texts.specs.Fronts.{IsFront}
-use Rattle.texts.specs.declared.grammar.Front.{Front}
+use Rattle.text_base.specs.Fronts.{IsFront}
+use Rattle.text_base.specs.declared.grammar.Front.{Front}
 use Rattle.nl_model.specs.Draft.{Draft}
 use Rattle.nl_model.specs.Rules.{most_terms}
 use Rattle.nl_lines.specs.declared.head.Head.{Head}

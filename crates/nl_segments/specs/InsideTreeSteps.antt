@@ -1,6 +1,6 @@
 -- What a row of an expression does to what is held, and what a whole expression adds to the file.
 use Rattle.std.specs.Prelude.{◌≡◌, ℕ, ◌+◌, ◌<◌, ◌≤◌, ◌^◌, true, false, List, [], ◌∷◌, ◌++◌, length, slice_set, Option, Some, None, nat_le, All}
-use Rattle.nl_meaning.specs.Trees.{Tree}
+use Rattle.nl_model.specs.Trees.{Tree}
 use Rattle.nl_model.specs.declared.header_counts.Counts.{Counts}
 use Rattle.nl_model.specs.Draft.{Draft, is_given}
 use Rattle.nl_model.specs.File.{Term}

@@ -2,19 +2,19 @@
 use Rattle.std.specs.Prelude.{◌≡◌, ◌<◌, ◌≤◌, ℕ, List, Option, Some, option_map, slice_get, IsSome, IsSomeAnd, Result, Ok, Err, refl}
 use Rattle.std.specs.List.{Contains}
 use Rattle.std.specs.Coded.{Coded, code_by, coded×, coded_option}
-use Rattle.texts.specs.contracts.lines.Lines.{the_row as lines_row}
-use Rattle.texts.specs.declared.stop.Stop.{Stop}
-use Rattle.texts.specs.declared.stop.Stop.TheVariants.{Fault, Memory}
-use Rattle.texts.specs.declared.fault.TextFault.{TextFault}
-use Rattle.texts.specs.Lines.{LinesState}
-use Rattle.texts.specs.Reading.{Stands, IsRead, HasFault, HasFaultSoFar}
+use Rattle.text_base.specs.contracts.lines.Lines.{the_row as lines_row}
+use Rattle.text_base.specs.declared.stop.Stop.{Stop}
+use Rattle.text_base.specs.declared.stop.Stop.TheVariants.{Fault, Memory}
+use Rattle.text_base.specs.declared.fault.TextFault.{TextFault}
+use Rattle.text_base.specs.Lines.{LinesState}
+use Rattle.text_base.specs.Reading.{Stands, IsRead, HasFault, HasFaultSoFar}
 use Rattle.nl_model.specs.declared.at.At.{At}
 use Rattle.nl_model.specs.declared.at.Owner.{Owner}
 use Rattle.nl_model.specs.declared.at.Owner.TheVariants.{Con, Def, Obj}
 use Rattle.nl_model.specs.File.{File}
 use Rattle.nl_model.specs.FilePlaces.{HasPlace, tree_at}
 use Rattle.nl_model.specs.Nodes.{IsPrefix}
-use Rattle.nl_meaning.specs.Trees.{Tree}
+use Rattle.nl_model.specs.Trees.{Tree}
 use Rattle.nl_lines.specs.declared.head.Head.{Head}
 use Rattle.nl_lines.specs.declared.head.Head.TheVariants.{Body, Definition, Objective}
 use Rattle.nl_lines.specs.Nodes.{only_nodes}

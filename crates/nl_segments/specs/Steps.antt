@@ -1,6 +1,6 @@
 -- What one line more does to what lines mean.
 use Rattle.std.specs.Prelude.{ℕ, List, [], ◌∷◌, ◌++◌, if◌then◌else◌}
-use Rattle.texts.specs.Words.{words_of, without_comment}
+use Rattle.text_base.specs.Words.{words_of, without_comment}
 use Rattle.nl_lines.specs.Rows.{NumberedRow, holds_words}
 use Rattle.nl_lines.specs.Pieces.{with_row}
 use Rattle.nl_segments.specs.Grammar.{Standing, is_in_header, counts_of}

@@ -1,6 +1,6 @@
 // A reader of the rows after the header.
 ghost use Rattle.std.specs.Prelude.{◌≡◌, ◌≤◌, ℕ, List, IfOk, replicate, false};
-ghost use Rattle.texts.specs.Words.{texts};
+ghost use Rattle.text_base.specs.Words.{texts};
 ghost use Rattle.nl_model.specs.Draft.{IsDraft};
 ghost use Rattle.nl_lines.specs.declared.head.Head.{Head};
 ghost use Rattle.nl_lines.specs.Heads.{is_head};
@@ -8,7 +8,7 @@ ghost use Rattle.nl_segments.specs.Held.{HasRow, HoldsSome, IsHeld, IsHeaderOf, 
 ghost use Rattle.nl_segments.specs.InsideTaking.{body_awaits};
 ghost use Rattle.nl_lines.specs.Tests.{index_limit};
 ghost use Rattle.nl_segments.specs.InsideEnding.{body_end_tests};
-ghost use Rattle.texts.specs.Judged.{Decides};
+ghost use Rattle.text_base.specs.Judged.{Decides};
 
 use crate::current::Current;
 use crate::ending::{are_sums, is_short};
@@ -18,7 +18,7 @@ use crate::seen::Seen;
 use nl_lines::{Awaited, NlReason, is_head};
 use nl_model::{Counts, Header, NlBuilder};
 use std::alloc::{AllocError, Global};
-use texts::{Marks, Name, Stop};
+use text_base::{Marks, Name, Stop};
 
 /// The rows of the body so far: the file, the last piece where it is not complete, and what judging
 /// the next row needs.

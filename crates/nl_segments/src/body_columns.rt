@@ -1,6 +1,6 @@
 // A line with the number of a column.
 ghost use Rattle.std.specs.Prelude.{◌≡◌, ◌≤◌, ℕ, List, false};
-ghost use Rattle.texts.specs.Words.{texts};
+ghost use Rattle.text_base.specs.Words.{texts};
 ghost use Rattle.nl_lines.specs.declared.awaited.Awaited.TheVariants.{ColumnCount};
 ghost use Rattle.nl_lines.specs.Heads.{is_head};
 ghost use Rattle.nl_segments.specs.Current.{Current as CurrentValue};
@@ -12,7 +12,7 @@ ghost use Rattle.nl_lines.specs.WholeRows.{IsWholeRow};
 use crate::body::BodyReader;
 use crate::closing::{count_line, count_lines};
 use nl_lines::{NlReason, first_whole, read_column};
-use texts::{Front, Stop};
+use text_base::{Front, Stop};
 
 // Takes the numbers of columns of lines at the front of a piece, where so many are left.
 fn give_columns(columns: &mut Vec<u32>, left: u32, piece: &[u8]) -> Front

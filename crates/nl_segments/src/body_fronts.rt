@@ -5,7 +5,7 @@ ghost use Rattle.nl_segments.specs.InsideTermRuns.{TakesLines};
 
 use crate::body::BodyReader;
 use nl_lines::Awaited;
-use texts::Front;
+use text_base::Front;
 
 impl BodyReader {
     // Takes lines of the kind that is awaited at the front of a piece, of which the first line has

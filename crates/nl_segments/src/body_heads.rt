@@ -1,8 +1,8 @@
 // A row that is a head.
 ghost use Rattle.std.specs.Prelude.{◌≡◌, ◌<◌, ◌≤◌, ◌+◌, ◌^◌, length, true, false, Some, None, IfOk, IfErr, OnOk, OnErr};
-ghost use Rattle.texts.specs.Judged.{Decides};
-ghost use Rattle.texts.specs.Names.{IsName};
-ghost use Rattle.texts.specs.Words.{texts};
+ghost use Rattle.text_base.specs.Judged.{Decides};
+ghost use Rattle.text_base.specs.Names.{IsName};
+ghost use Rattle.text_base.specs.Words.{texts};
 ghost use Rattle.nl_lines.specs.Heads.{is_head, head_of, is_in_range, name_in};
 ghost use Rattle.nl_segments.specs.InsideHeadSteps.{has_come, has_come_suffix, held_head_tests, new_head_tests, begun_current, begun_name, begun_count, begun_draft};
 ghost use Rattle.nl_segments.specs.Held.{HoldsSome, TakesRow, body_of};
@@ -18,7 +18,7 @@ use nl_lines::{
 };
 use nl_model::{Counts, NlBuilder, Suffix, Terms};
 use std::alloc::{AllocError, Global};
-use texts::{Front, Name, Stop, word_at};
+use text_base::{Front, Name, Stop, word_at};
 
 /// A file has at most so many suffixes.
 const MOST_SUFFIXES: u32 = 1024;

@@ -1,7 +1,7 @@
 // A line with the sides of a constraint or a variable.
 ghost use Rattle.std.specs.Prelude.{◌≡◌, ◌-◌, ◌<◌, ◌≤◌, ◌&&◌, not, false, Some, None, IfOk, IfErr, OnOk, OnErr, ℕ};
-ghost use Rattle.texts.specs.Judged.{Decides};
-ghost use Rattle.texts.specs.Words.{texts};
+ghost use Rattle.text_base.specs.Judged.{Decides};
+ghost use Rattle.text_base.specs.Words.{texts};
 ghost use Rattle.nl_model.specs.Kinds.{variable_kind};
 ghost use Rattle.linear_program.specs.Intervals.{IsOrdered};
 ghost use Rattle.nl_lines.specs.declared.awaited.Awaited.TheVariants.{Interval as IntervalLine};
@@ -20,7 +20,7 @@ use crate::current::Current;
 use nl_lines::{NlReason, first_interval, is_refused_interval, is_sides, read_interval};
 use nl_model::{Header, Interval, Kind, NlBuilder, kinds_of};
 use std::alloc::AllocError;
-use texts::{Front, Stop};
+use text_base::{Front, Stop};
 
 fn is_binary(kind: Kind) -> bool
     ensures { result ≡ is_binary kind }

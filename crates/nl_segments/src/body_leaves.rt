@@ -1,6 +1,6 @@
 // A line with a node that is a letter and a number alone.
 ghost use Rattle.std.specs.Prelude.{◌≤◌, ◌+◌, ◌-◌, ◌^◌, List, ℕ, All, IfSome, length};
-ghost use Rattle.texts.specs.Judged.{Decides};
+ghost use Rattle.text_base.specs.Judged.{Decides};
 ghost use Rattle.nl_lines.specs.declared.awaited.Awaited.TheVariants.{Node};
 ghost use Rattle.nl_segments.specs.Current.{Current as CurrentValue};
 ghost use Rattle.nl_segments.specs.Held.{Body, HoldsSome, IsAwaiting, body_of};
@@ -16,10 +16,10 @@ use crate::body_nodes::{MOST_NODES, row_count, settle, take_next_row};
 use exact_numbers::Dec;
 use nl_lines::{Awaited, FirstLeaf, Leaf, NlReason, NodeRow, first_leaf, read_leaf_row};
 use nl_model::{ExprBuilder, NlBuilder};
-use texts::{Front, Stop};
+use text_base::{Front, Stop};
 
 // A row of an expression, after so many nodes.
-#[tactic(auto, using(texts::proofs::FirstReasons::reason_after, nl_lines::proofs::NodeLemmas::too_large))]
+#[tactic(auto, using(text_base::proofs::FirstReasons::reason_after, nl_lines::proofs::NodeLemmas::too_large))]
 pub(crate) fn read_next(leaf: Leaf, builder: &NlBuilder, nodes: u32) -> Result<NodeRow, NlReason>
     ensures { (words : List (List ℕ)) → IsLeafRow words leaf
         → Decides (counted_node_tests builder.now.counts builder.now nodes words)

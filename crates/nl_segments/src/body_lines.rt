@@ -4,7 +4,7 @@ ghost use Rattle.nl_segments.specs.InsideTaking.{TakesBodyLine};
 
 use crate::body::BodyReader;
 use nl_lines::NlReason;
-use texts::{Row, Stop, strip_comment};
+use text_base::{Row, Stop, strip_comment};
 
 impl BodyReader {
     /// Takes the line of this number. Out of line, so that the room of its row is made here alone.

@@ -1,7 +1,7 @@
 // A line with a node.
 ghost use Rattle.std.specs.Prelude.{◌≡◌, ℕ, List, true, false, IfSome, IsSomeAnd, OnOk, Ok, All};
-ghost use Rattle.texts.specs.Judged.{Decides};
-ghost use Rattle.texts.specs.Words.{texts};
+ghost use Rattle.text_base.specs.Judged.{Decides};
+ghost use Rattle.text_base.specs.Words.{texts};
 ghost use Rattle.nl_model.specs.Nodes.{tree_of};
 ghost use Rattle.nl_lines.specs.declared.awaited.Awaited.TheVariants.{Node, Nothing};
 ghost use Rattle.nl_segments.specs.Current.{current_awaits, with_node_row};
@@ -19,13 +19,13 @@ use crate::places::Places;
 use nl_lines::{Awaited, Head, NlReason, NodeRow, read_node};
 use nl_model::{Def, Expr, NlBuilder, Terms};
 use std::alloc::AllocError;
-use texts::Stop;
+use text_base::Stop;
 
 /// A file has at most so many nodes.
 pub(crate) const MOST_NODES: u32 = 4_194_304;
 
 // A row of an expression, after so many nodes.
-#[tactic(auto, using(texts::proofs::FirstReasons::reason_after, nl_lines::proofs::NodeLemmas::too_large, nl_lines::proofs::NodeLemmas::not_large))]
+#[tactic(auto, using(text_base::proofs::FirstReasons::reason_after, nl_lines::proofs::NodeLemmas::too_large, nl_lines::proofs::NodeLemmas::not_large))]
 fn read_row(words: &[&[u8]], builder: &NlBuilder, nodes: u32) -> Result<NodeRow, NlReason>
     ensures { Decides (counted_node_tests builder.now.counts builder.now nodes (texts words.now))
         (IsNextRow builder.now.counts nodes (texts words.now)) result }

@@ -1,6 +1,6 @@
 // A line with the number of operands of an opcode.
 ghost use Rattle.std.specs.Prelude.{◌≡◌, false};
-ghost use Rattle.texts.specs.Words.{texts};
+ghost use Rattle.text_base.specs.Words.{texts};
 ghost use Rattle.nl_lines.specs.declared.awaited.Awaited.TheVariants.{OperandCount};
 ghost use Rattle.nl_lines.specs.Heads.{is_head};
 ghost use Rattle.nl_segments.specs.Held.{HoldsSome, IsAwaiting, TakesRow, body_of};
@@ -10,7 +10,7 @@ use crate::body::BodyReader;
 use crate::body_nodes::{take_next_row, take_row};
 use nl_lines::{NlReason, NodeRow, first_whole, is_operand_count, read_operand_count};
 use nl_model::Node;
-use texts::{Front, Stop};
+use text_base::{Front, Stop};
 
 impl BodyReader {
     /// A line with the number of operands of an opcode.

@@ -1,6 +1,6 @@
 // A line of an index and a value.
 ghost use Rattle.std.specs.Prelude.{ℕ, List, ◌≡◌, ◌<◌, length, true, false, Some, None, IsSome, IsSomeAnd, IfSome, OnOk, OnErr, if◌then◌else◌};
-ghost use Rattle.texts.specs.Words.{texts};
+ghost use Rattle.text_base.specs.Words.{texts};
 ghost use Rattle.nl_model.specs.Rules.{most_terms};
 ghost use Rattle.nl_lines.specs.declared.awaited.Awaited.TheVariants.{Pair};
 ghost use Rattle.nl_segments.specs.Current.{current_awaits};
@@ -20,7 +20,7 @@ use nl_lines::{
 };
 use nl_model::{NlBuilder, Suffix};
 use std::alloc::AllocError;
-use texts::{Marks, Name, Stop};
+use text_base::{Marks, Name, Stop};
 
 // Gives the file a pair that is not kept.
 #[inline(always)]

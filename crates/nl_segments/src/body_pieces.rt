@@ -14,7 +14,7 @@ use crate::body_pairs::count_use;
 use nl_lines::{FirstPair, Head, MOST_TERMS, NodeRow, first_pair};
 use nl_model::{Expr, ExprBuilder, NlBuilder};
 use std::alloc::Global;
-use texts::Front;
+use text_base::Front;
 
 /// The expression of a constraint, and how many bytes its line and the LF are.
 #[derive(Drop)]

@@ -11,7 +11,7 @@ use crate::body_pairs::{count_use, give_pair};
 use crate::current::Current;
 use nl_lines::{Head, MOST_TERMS, first_pair, is_nothing};
 use nl_model::NlBuilder;
-use texts::{Front, Name};
+use text_base::{Front, Name};
 
 // Gives the file the terms of lines at the front of a piece, at most so many, and counts their uses.
 fn give_terms(

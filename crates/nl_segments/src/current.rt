@@ -13,7 +13,7 @@ use nl_lines::{Awaited, Head, NodeRow, Pending, has_tree, line_kind};
 use nl_model::{ExprBuilder, NlBuilder, Terms};
 use std::alloc::{AllocError, Global};
 use std::marker::Model;
-use texts::Front;
+use text_base::Front;
 
 /// The piece that was begun last: its head, how many lines before an expression are still awaited,
 /// and what was read of it.

@@ -9,7 +9,7 @@ use crate::stage::Stage;
 use nl_lines::NlReason;
 use std::alloc::Global;
 use std::marker::Model;
-use texts::{Front, Grammar, LineFault, Stop};
+use text_base::{Front, Grammar, LineFault, Stop};
 
 /// The lines so far.
 #[derive(Drop)]

@@ -1,7 +1,7 @@
 // Laws of .nl texts.
 ghost use Rattle.std.specs.Prelude.{◌≡◌, ◌+◌, List, ℕ, ◌++◌, ◌∷◌, [], length};
-ghost use Rattle.texts.specs.Judged.{HasOneOutcome};
-ghost use Rattle.texts.specs.Reading.{lines_of, last_of};
+ghost use Rattle.text_base.specs.Judged.{HasOneOutcome};
+ghost use Rattle.text_base.specs.Reading.{lines_of, last_of};
 ghost use Rattle.nl_segments.specs.Grammar.{nl_rules, NlValue, SaysFile, standing};
 ghost use Rattle.nl_segments.specs.Reader.{HasLinesUpTo, HasPieces, IsNl};
 ghost use Rattle.nl_segments.specs.Steps.{after};

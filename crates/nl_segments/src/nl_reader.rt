@@ -1,8 +1,8 @@
 // A reader of .nl texts.
 ghost use Rattle.std.specs.Prelude.{◌≡◌, ◌++◌, List, ℕ, [], IfOk, IfErr, IfSome, OnOk, Err, None};
 ghost use Rattle.std.specs.Result.{result_err};
-ghost use Rattle.texts.specs.Stopped.{IfFault};
-ghost use Rattle.texts.specs.Reading.{IsFreeSoFar};
+ghost use Rattle.text_base.specs.Stopped.{IfFault};
+ghost use Rattle.text_base.specs.Reading.{IsFreeSoFar};
 ghost use Rattle.nl_segments.specs.Grammar.{nl_rules};
 ghost use Rattle.nl_segments.specs.Reader.{IsFed, ReadsNl, HasNlFaultSoFar, HasLines, stop_of, stop_in, fault_of, opcode_of};
 
@@ -11,7 +11,7 @@ use crate::nl_read::NlRead;
 use nl_lines::{NlFault, NlReason};
 use std::alloc::{AllocError, Global};
 use std::marker::Model;
-use texts::{Reader, Stop, TextFault};
+use text_base::{Reader, Stop, TextFault};
 
 // The opcode that is refused; 0 for any other reason.
 fn opcode_of(reason: NlReason) -> u32
@@ -125,7 +125,7 @@ pub fn read_nl(alloc: Global, text: &[u8]) -> Result<NlRead, Stop<NlFault>>
     ensures reads { ReadsNl text.now result }
     ensures lines { IfOk result HasLines }
 {
-    match texts::read(alloc, NlGrammar::new(alloc), text) {
+    match text_base::read(alloc, NlGrammar::new(alloc), text) {
         Ok(read) => Ok(read),
         Err(stop) => Err(stop_of(stop)),
     }

@@ -2,12 +2,11 @@
 ghost use Rattle.std.specs.Prelude.{◌≡◌, ◌<◌, ◌≤◌, ◌^◌, ◌+◌, ◌-◌, if◌then◌else◌, ◌++◌, ◌∷◌, [], length, replicate, get_or, slice_get, slice_set, true, false, Ok, Some, IsSome, IfOk, OnOk, option_copied};
 ghost use Rattle.nl_lines.specs.Pieces.{keeps_pairs};
 ghost use Rattle.nl_lines.specs.Saying.{changed, empty_lines, no_lines, owner_lines, place_line};
-ghost use Rattle.line_places.specs.InsideLineRuns.{follows};
+ghost use Rattle.nl_lines.specs.InsideLineRuns.{follows};
 ghost use Rattle.nl_segments.specs.InsidePlaceSteps.{HasOwner, HasBegun, more_node_run, more_nodes, more_term_run, more_terms, nodes_follow, terms_follow, with_begun, with_node_line, with_node_run, with_term_line, with_term_run};
 ghost use Rattle.std.specs.Option.{option_or};
 
-use line_places::OwnerLines;
-use nl_lines::Head;
+use nl_lines::{Head, OwnerLines};
 use nl_model::{At, Counts, Owner};
 use std::alloc::{AllocError, Global};
 use std::marker::Model;

@@ -8,7 +8,7 @@ use crate::body::BodyReader;
 use nl_header::{HeadFault, HeaderReader};
 use nl_lines::NlReason;
 use std::alloc::Global;
-use texts::{Row, Stop, strip_comment};
+use text_base::{Row, Stop, strip_comment};
 
 /// The header, and then the body.
 #[derive(Drop)]

@@ -5,7 +5,7 @@ use Rattle.std.specs.Prelude.{codes}
 use Rattle.std.proofs.lemmas.List.{length-take-le, get_or-take, drop_all, take_all}
 use Rattle.std.specs.Fmt.{decimal}
 use Rattle.nl_model.specs.File.{Term}
-use Rattle.texts.specs.WordLines.{WordLine, lines_text}
+use Rattle.text_base.specs.WordLines.{WordLine, lines_text}
 use Rattle.nl_model.specs.UseCounts.{terms_up_to, use_count}
 use Rattle.nl_model.proofs.UseLemmas.{below, split_rows, next_rows, nothing_below}
 use Rattle.nl_writer.specs.Written.{lettered, column_lines, column_piece}

@@ -6,10 +6,10 @@ use Rattle.std.specs.Fmt.{decimal}
 use Rattle.code_tables.specs.Opcodes.{operands_of}
 use Rattle.code_tables.specs.declared.class.OpClass.TheVariants.{Sum, Least}
 use Rattle.exact_numbers.specs.declared.dec.Dec.{Dec}
-use Rattle.nl_meaning.specs.Trees.{number, variable, defined, operator, none, more}
+use Rattle.nl_model.specs.Trees.{number, variable, defined, operator, none, more}
 use Rattle.linear_program.specs.declared.interval.Interval.{Interval}
 use Rattle.nl_model.specs.File.{File}
-use Rattle.texts.specs.WordLines.{lines_text}
+use Rattle.text_base.specs.WordLines.{lines_text}
 use Rattle.nl_writer.specs.Trees.{tree_lines}
 use Rattle.nl_writer.specs.Written.{nl_text}
 
@@ -55,7 +55,41 @@ objective_alone : File
 objective_alone =
     record {
       options = options;
-      counts = record { n_var = 1; n_con = 0; n_obj = 1; n_ranges = 0; n_eqns = 0; n_lcon = 0; nlc = 0; nlo = 0; nlnc = 0; lnc = 0; nlvc = 0; nlvo = 0; nlvb = 0; nwv = 0; nfunc = 0; arith = 0; flags = 1; nbv = 0; niv = 0; nlvbi = 0; nlvci = 0; nlvoi = 0; nzc = 0; nzo = 1; row_name_len = 0; col_name_len = 0; comb = 0; comc = 0; como = 0; comc1 = 0; como1 = 0 };
+      counts = record {
+        n_var = 1;
+        n_con = 0;
+        n_obj = 1;
+        n_ranges = 0;
+        n_eqns = 0;
+        n_lcon = 0;
+        nlc = 0;
+        nlo = 0;
+        nlnc =
+            0;
+        lnc = 0;
+        nlvc = 0;
+        nlvo = 0;
+        nlvb = 0;
+        nwv = 0;
+        nfunc = 0;
+        arith = 0;
+        flags = 1;
+        nbv = 0;
+        niv = 0;
+        nlvbi =
+            0;
+        nlvci = 0;
+        nlvoi = 0;
+        nzc = 0;
+        nzo = 1;
+        row_name_len = 0;
+        col_name_len = 0;
+        comb = 0;
+        comc = 0;
+        como = 0;
+        comc1 = 0;
+        como1 = 0;
+      };
       bodies = [];
       objectives = record { maximise = false; tree = number (pos 5) (pos 0) } ∷ [];
       definitions = [];
@@ -77,7 +111,41 @@ guessed : File
 guessed =
     record {
       options = options;
-      counts = record { n_var = 1; n_con = 1; n_obj = 0; n_ranges = 0; n_eqns = 0; n_lcon = 0; nlc = 0; nlo = 0; nlnc = 0; lnc = 0; nlvc = 0; nlvo = 0; nlvb = 0; nwv = 0; nfunc = 0; arith = 0; flags = 1; nbv = 0; niv = 0; nlvbi = 0; nlvci = 0; nlvoi = 0; nzc = 0; nzo = 0; row_name_len = 0; col_name_len = 0; comb = 0; comc = 0; como = 0; comc1 = 0; como1 = 0 };
+      counts = record {
+        n_var = 1;
+        n_con = 1;
+        n_obj = 0;
+        n_ranges = 0;
+        n_eqns = 0;
+        n_lcon = 0;
+        nlc = 0;
+        nlo = 0;
+        nlnc =
+            0;
+        lnc = 0;
+        nlvc = 0;
+        nlvo = 0;
+        nlvb = 0;
+        nwv = 0;
+        nfunc = 0;
+        arith = 0;
+        flags = 1;
+        nbv = 0;
+        niv = 0;
+        nlvbi =
+            0;
+        nlvci = 0;
+        nlvoi = 0;
+        nzc = 0;
+        nzo = 0;
+        row_name_len = 0;
+        col_name_len = 0;
+        comb = 0;
+        comc = 0;
+        como = 0;
+        comc1 = 0;
+        como1 = 0;
+      };
       bodies = None ∷ [];
       objectives = [];
       definitions = [];

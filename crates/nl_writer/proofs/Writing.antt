@@ -9,11 +9,11 @@ use Rattle.std.proofs.lemmas.Option.{slice_get_within, get_or_from_slice_get}
 use Rattle.std.specs.List.{flat_map, slice_get}
 use Rattle.code_tables.specs.Opcodes.{class_of}
 use Rattle.code_tables.specs.declared.class.OpClass.TheVariants.{Refused}
-use Rattle.nl_meaning.specs.Trees.{Tree, Trees, count_of, Takes, rule_of}
+use Rattle.nl_model.specs.Trees.{Tree, Trees, count_of, Takes, rule_of}
 use Rattle.nl_model.specs.declared.node.Node.{Node}
 use Rattle.nl_model.specs.Nodes.{IsPrefix, a_number, a_variable, a_defined, an_operation, ArePrefixes, no_tree, one_more}
 use Rattle.nl_model.proofs.Opcodes.{opcode_of-known}
-use Rattle.texts.specs.WordLines.{WordLine, line_text, lines_text}
+use Rattle.text_base.specs.WordLines.{WordLine, line_text, lines_text}
 use Rattle.written_texts.proofs.Writing.{lines_after, rest_written}
 use Rattle.nl_writer.specs.Trees.{operator_lines, tree_lines, trees_lines, node_lines}
 use Rattle.nl_writer.specs.Written.{by_number, options_line, size_lines, part_lines, header_lines}

@@ -3,7 +3,7 @@ use Rattle.std.specs.Prelude.{◌≡◌, ℕ, ◌+◌, ◌<◌, List, [], ◌∷
 use Rattle.std.specs.Fmt.{decimal}
 use Rattle.nl_model.specs.File.{Term}
 use Rattle.nl_model.specs.UseCounts.{use_count}
-use Rattle.texts.specs.WordLines.{WordLine}
+use Rattle.text_base.specs.WordLines.{WordLine}
 
 -- the uses of n variables
 pub record HasUses (n : ℕ) (rows : List (List Term)) (uses : List ℕ) : Type 0 where

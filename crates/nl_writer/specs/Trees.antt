@@ -5,12 +5,12 @@ use Rattle.code_tables.specs.Opcodes.{operands_of}
 use Rattle.code_tables.specs.declared.class.Operands.{Operands}
 use Rattle.code_tables.specs.declared.class.Operands.TheVariants.{One, Two, Counted}
 use Rattle.exact_numbers.specs.Written.{dec_text}
-use Rattle.nl_meaning.specs.Trees.{Tree, number, variable, defined, operator, Trees, none, more, count_of}
+use Rattle.nl_model.specs.Trees.{Tree, number, variable, defined, operator, Trees, none, more, count_of}
 use Rattle.nl_model.specs.Nodes.{opcode_of}
 use Rattle.nl_model.specs.declared.node.Node.{Node}
 use Rattle.nl_model.specs.declared.node.Node.TheVariants.{Num, Var, Defined, Op}
 use Rattle.exact_numbers.specs.Values.{text_of}
-use Rattle.texts.specs.WordLines.{WordLine}
+use Rattle.text_base.specs.WordLines.{WordLine}
 
 -- the number of operands stands on the next line
 abbrev pub is_counted : Option Operands → Bool

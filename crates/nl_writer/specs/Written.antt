@@ -6,7 +6,7 @@ use Rattle.std.specs.List.{flat_map}
 use Rattle.std.specs.Fmt.{decimal, signed_decimal}
 use Rattle.std.specs.Ordering.{int_eq}
 use Rattle.exact_numbers.specs.declared.dec.Dec.{Dec}
-use Rattle.nl_meaning.specs.Trees.{Tree}
+use Rattle.nl_model.specs.Trees.{Tree}
 use Rattle.nl_model.specs.declared.header_counts.Counts.{Counts}
 use Rattle.linear_program.specs.declared.interval.Interval.{Interval}
 use Rattle.nl_model.specs.File.{Term, File}
@@ -15,7 +15,7 @@ use Rattle.nl_model.specs.declared.definition.Def.{Def as Definition}
 use Rattle.nl_model.specs.declared.suffix.Suffix.{Suffix}
 use Rattle.nl_model.specs.UseCounts.{terms_up_to}
 use Rattle.exact_numbers.specs.Values.{text_of}
-use Rattle.texts.specs.WordLines.{WordLine, unless_empty, lines_text}
+use Rattle.text_base.specs.WordLines.{WordLine, unless_empty, lines_text}
 use Rattle.nl_writer.specs.Trees.{tree_lines}
 
 -- ---- The header.

@@ -2,7 +2,7 @@
 ghost use Rattle.std.specs.Prelude.{◌≡◌, ℕ, ◌+◌, ◌*◌, ◌<◌, ◌≤◌, ◌^◌, ◌++◌, ◌∷◌, [], OnOk, IfOk, codes, length, All, get_or};
 ghost use Rattle.std.specs.Fmt.{decimal};
 ghost use Rattle.nl_model.specs.Rules.{AreTermsBelow};
-ghost use Rattle.texts.specs.WordLines.{line_text, lines_text};
+ghost use Rattle.text_base.specs.WordLines.{line_text, lines_text};
 ghost use Rattle.nl_writer.specs.Written.{column_piece};
 ghost use Rattle.nl_model.specs.UseCounts.{uses_in};
 ghost use Rattle.nl_writer.specs.InsideUses.{sum_lines, HasUses};

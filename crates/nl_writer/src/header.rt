@@ -2,7 +2,7 @@
 ghost use Rattle.std.specs.Prelude.{◌≡◌, ◌++◌, ◌∷◌, OnOk};
 ghost use Rattle.std.specs.List.{flat_map};
 ghost use Rattle.std.specs.Fmt.{signed_decimal};
-ghost use Rattle.texts.specs.WordLines.{line_text, lines_text};
+ghost use Rattle.text_base.specs.WordLines.{line_text, lines_text};
 ghost use Rattle.nl_writer.specs.Written.{numbers, options_line, size_lines, part_lines, header_lines};
 
 use crate::words::put_lettered;

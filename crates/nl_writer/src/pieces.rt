@@ -3,7 +3,7 @@ ghost use Rattle.std.specs.Prelude.{◌≡◌, ◌<◌, ◌++◌, ◌∷◌, [],
 ghost use Rattle.std.specs.List.{flat_map};
 ghost use Rattle.std.specs.Option.{option_copied};
 ghost use Rattle.std.specs.Fmt.{decimal};
-ghost use Rattle.texts.specs.WordLines.{line_text, lines_text};
+ghost use Rattle.text_base.specs.WordLines.{line_text, lines_text};
 ghost use Rattle.nl_writer.specs.Trees.{tree_lines};
 ghost use Rattle.nl_writer.specs.Written.{lettered, by_number, suffix_piece, definition_piece, body_piece, sense_word, objective_piece, guess_piece, term_piece};
 

@@ -1,6 +1,6 @@
 // Expressions, a node a line.
 ghost use Rattle.std.specs.Prelude.{◌≡◌, ◌++◌, ◌∷◌, [], OnOk, codes};
-ghost use Rattle.texts.specs.WordLines.{line_text, lines_text};
+ghost use Rattle.text_base.specs.WordLines.{line_text, lines_text};
 ghost use Rattle.nl_writer.specs.Trees.{is_counted, operator_lines, node_lines, tree_lines};
 ghost use Rattle.nl_writer.specs.Written.{lettered};
 ghost use Rattle.code_tables.specs.Opcodes.{operands_of};

@@ -1,6 +1,6 @@
 // Numbers after a letter, and lines of numbers.
 ghost use Rattle.std.specs.Prelude.{◌≡◌, ◌++◌, OnOk};
-ghost use Rattle.texts.specs.WordLines.{line_text, lines_text};
+ghost use Rattle.text_base.specs.WordLines.{line_text, lines_text};
 ghost use Rattle.nl_writer.specs.Written.{lettered, term_line, term_lines};
 
 use exact_numbers::Dec;

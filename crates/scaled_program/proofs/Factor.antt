@@ -1,7 +1,7 @@
 -- The least factor is the least common multiple of the cofactors.
 use Prim.Native.Nat.{◌∣◌}
 use Rattle.std.proofs.Common.{ℕ, ◌<◌, ◌↔◌, pos, List, All}
-use Rattle.fractions.specs.Rational.{ℚ, whole, ◌*ℚ◌}
+use Rattle.exact_numbers.specs.Rational.{ℚ, whole, ◌*ℚ◌}
 use Rattle.scaled_program.specs.Factor.{IsFinite, IsLeastFactor, least_factor}
 use Rattle.scaled_program.specs.FactorLemmas.{steps_above, steps_multiples, steps_are_least}
 pub use Rattle.scaled_program.specs.FactorLemmas.{is_lcm, cofactor_above, finite_multiple, only_cofactor}

@@ -3,3 +3,11 @@ pub mod Meaning
 pub mod Return
 pub mod Scaling
 pub mod Sides
+pub mod Entries
+pub mod Example
+pub mod Export
+pub mod Exported
+pub mod ExportedMeaning
+pub mod Names
+pub mod ExportedReturn
+pub mod ExportedSides

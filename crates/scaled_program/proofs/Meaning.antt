@@ -4,10 +4,10 @@ use Rattle.std.proofs.lemmas.Bool.{eq-eqb, ne_eqb, cases_lt}
 use Rattle.std.proofs.Math.Seq.{get_or-append_seam}
 use Rattle.std.proofs.Math.ListN.{get_or-append}
 use Rattle.std.proofs.lemmas.List.Elements.{All-push}
-use Rattle.fractions.specs.Rational.{ℚ, zero_ℚ, one_ℚ, ◌+ℚ◌, ◌*ℚ◌, neg_ℚ, IsWhole}
-use Rattle.fractions.proofs.Arithmetic.{+ℚ_assoc, +ℚ_zero, zero-+ℚ, +ℚ-neg, zero-*ℚ, one-*ℚ, neg-*ℚ, +ℚ_cancel, ≤ℚ_of_same, ≤ℚ_antisymm}
-use Rattle.fractions.proofs.Adding.{sum_below_same, sum_below_suc, sum_below_all_zero}
-use Rattle.program_meaning.specs.Linear.{IsInside, Form, Row, RowHolds, Linear, IsLinear, IsFeasible, form_value, linear_part, value_at, no_variable, variable_count, objective_value}
+use Rattle.exact_numbers.specs.Rational.{ℚ, zero_ℚ, one_ℚ, ◌+ℚ◌, ◌*ℚ◌, neg_ℚ, IsWhole}
+use Rattle.exact_numbers.proofs.RationalLaws.{+ℚ_assoc, +ℚ_zero, zero-+ℚ, +ℚ-neg, zero-*ℚ, one-*ℚ, neg-*ℚ, +ℚ_cancel, ≤ℚ_of_same, ≤ℚ_antisymm}
+use Rattle.exact_numbers.proofs.Adding.{sum_below_same, sum_below_suc, sum_below_all_zero}
+use Rattle.linear_program.specs.Linear.{IsInside, Form, Row, RowHolds, Linear, IsLinear, IsFeasible, form_value, linear_part, value_at, no_variable, variable_count, objective_value}
 use Rattle.scaled_program.specs.Meaning.{HasOrderedSides, IsScaledFeasible, ScaledHolds, scaled_objective}
 use Rattle.scaled_program.specs.Program.{ScaledRow, exported_rows, scaled_and_tied, scaled_by, scaled_row, then_at, tie, z_form, z_variable}
 use Rattle.scaled_program.proofs.Scaling.{ScaledIsOrdered, row_same, exported_same, exported_ordered, scaled_row_ordered}
@@ -49,7 +49,9 @@ module _ (n : ℕ) (xs : List ℚ) (z : ℚ) (count : length xs ≡ n) where
   row_more : (r : Row) → r.body.coefficient n ≡ zero_ℚ → form_value r.body (suc n) (xs ++ z ∷ []) ≡ form_value r.body n xs
   row_more r e =
       ap (λ v. r.body.constant +ℚ v)
-      (linear_more r.body.coefficient r.body.coefficient (λ j h. refl) ∙ ap (λ v. linear_part r.body.coefficient n xs +ℚ v) (ap (λ v. v *ℚ z) e ∙ zero-*ℚ z) ∙ +ℚ_zero (linear_part r.body.coefficient n xs))
+      (linear_more r.body.coefficient r.body.coefficient (λ j h. refl)
+      ∙ ap (λ v. linear_part r.body.coefficient n xs +ℚ v) (ap (λ v. v *ℚ z) e ∙ zero-*ℚ z)
+      ∙ +ℚ_zero (linear_part r.body.coefficient n xs))
 
   at_last : (v : ℚ) (c : ℕ → ℚ) → then_at n v c n ≡ v
   at_last v c = ap (λ b. cond b v (c n)) (eq-eqb n n refl)
@@ -127,13 +129,19 @@ module _ (f : Linear) (factor : ℕ → ℕ) (g : ℕ) (xs : List ℚ) (z : ℚ)
       let n = variable_count f in
       let first = exported_rows factor 0 f.rows in
       let t = scaled_row g (tie n f.objective) in
-      let file : All (RowHolds (suc n) longer) f.rows = λ k d h. subst (λ v. IsInside (get_or f.rows k d).side v) (sym (row_more n xs z count (get_or f.rows k d) (linear.within k d h n (omega arith)))) (s.relaxed.rows k d h) in
-      let rows = All-push (ScaledHolds (suc n) longer) first t ((exported_same factor (suc n) longer 0 f.rows above).1 file) ((row_same g (suc n) longer (tie n f.objective) some).1 ((tie_holds n xs z count f.objective).1 e)) in
+      let file : All (RowHolds (suc n) longer) f.rows = λ k d h. subst (λ v. IsInside (get_or f.rows k d).side v)
+      (sym (row_more n xs z count (get_or f.rows k d) (linear.within k d h n (omega arith)))) (s.relaxed.rows k d h)
+      in
+      let rows = All-push (ScaledHolds (suc n) longer) first t
+      ((exported_same factor (suc n) longer 0 f.rows above).1 file)
+      ((row_same g (suc n) longer (tie n f.objective) some).1 ((tie_holds n xs z count f.objective).1 e)) in
       record {
         rows = subst (λ i. All (ScaledHolds i longer) scaled) (sym variables_more) rows;
         bounds = λ j h.
             ⊎_elim
-            (λ (l : j < n). subst (λ b. IsInside b (value_at longer j)) (sym (ap (λ v. v.bound) (variable_first j l))) (subst (λ x. IsInside (get_or f.variables j no_variable).bound x) (sym (first_values n xs z count j l)) (s.relaxed.bounds j l)))
+            (λ (l : j < n). subst (λ b. IsInside b (value_at longer j)) (sym (ap (λ v. v.bound) (variable_first j l)))
+            (subst (λ x. IsInside (get_or f.variables j no_variable).bound x) (sym (first_values n xs z count j l))
+            (s.relaxed.bounds j l)))
             (λ (l : n ≤ j).
             let same : n ≡ j = omega (arith, variables_more) in
             subst (λ i. IsInside (get_or (f.variables ++ z_variable ∷ []) i no_variable).bound (value_at longer i)) same
@@ -156,7 +164,8 @@ module _ (f : Linear) (factor : ℕ → ℕ) (g : ℕ) where
   pub tied_ordered : IsLinear f → ((i : ℕ) → 0 < factor i) → 0 < g → HasOrderedSides (scaled_and_tied f factor g)
   tied_ordered linear above some =
       let t = scaled_row g (tie (variable_count f) f.objective) in
-      All-push ScaledIsOrdered (exported_rows factor 0 f.rows) t (exported_ordered factor 0 f.rows above linear.ordered) (scaled_row_ordered g (tie (variable_count f) f.objective) some (≤ℚ_of_same zero_ℚ zero_ℚ refl))
+      All-push ScaledIsOrdered (exported_rows factor 0 f.rows) t (exported_ordered factor 0 f.rows above linear.ordered)
+      (scaled_row_ordered g (tie (variable_count f) f.objective) some (≤ℚ_of_same zero_ℚ zero_ℚ refl))
 
   pub tied_objective : (xs : List ℚ) (z : ℚ) → length xs ≡ variable_count f → scaled_objective (scaled_and_tied f factor g) (xs ++ z ∷ []) ≡ z
   tied_objective xs z count =

@@ -1,10 +1,10 @@
 -- The law of return: a dual times the change of its row's body is the answer's value times the scaled row.
 use Rattle.std.proofs.Common.{◌≡◌, ℕ, zero, suc, ◌+◌, ◌<◌, ◌∙◌, sym, ap, subst, refl, arith, true, false, cond, List, [], ◌∷◌, ◌++◌, length, get_or, pos, IsTrue}
 use Rattle.std.proofs.Math.ListN.{get_or-append}
-use Rattle.fractions.specs.Rational.{ℚ, zero_ℚ, whole, ◌+ℚ◌, ◌-ℚ◌, ◌*ℚ◌, neg_ℚ}
-use Rattle.fractions.proofs.Arithmetic.{+ℚ_comm, +ℚ_assoc, +ℚ_zero, +ℚ-neg, -ℚ_lem, *ℚ_assoc, *ℚ_comm, *ℚ_zero, zero-*ℚ}
-use Rattle.fractions.proofs.Adding.{sum_below_all_zero}
-use Rattle.program_meaning.specs.Linear.{Form, Row, Linear, form_value, linear_part, value_at, variable_count, IsLinear, no_row, row_at}
+use Rattle.exact_numbers.specs.Rational.{ℚ, zero_ℚ, whole, ◌+ℚ◌, ◌-ℚ◌, ◌*ℚ◌, neg_ℚ}
+use Rattle.exact_numbers.proofs.RationalLaws.{+ℚ_comm, +ℚ_assoc, +ℚ_zero, +ℚ-neg, -ℚ_lem, *ℚ_assoc, *ℚ_comm, *ℚ_zero, zero-*ℚ}
+use Rattle.exact_numbers.proofs.Adding.{sum_below_all_zero}
+use Rattle.linear_program.specs.Linear.{Form, Row, Linear, form_value, linear_part, value_at, variable_count, IsLinear, no_row, row_at}
 use Rattle.scaled_program.specs.Meaning.{no_scaled_row, scaled_row_value}
 use Rattle.scaled_program.specs.Program.{ScaledRow, exported_rows, is_exported, scaled_and_tied, scaled_by, scaled_row, tie, z_variable}
 use Rattle.scaled_program.specs.Return.{place_of, dual_of}
@@ -25,8 +25,12 @@ stands factor j (r ∷ rs) zero h e =
     (record { inside = omega arith; there = ap (λ k. scaled_row (factor k) r) (omega arith) })
 stands factor j (r ∷ rs) (suc i) h e =
     let ih = stands factor (suc j) rs i (omega arith) e in
-    let there : get_or (exported_rows factor (suc j) rs) (place_of rs i) no_scaled_row ≡ scaled_row (factor (j + suc i)) (get_or rs i no_row) = ih.there ∙ ap (λ k. scaled_row (factor k) (get_or rs i no_row)) (omega arith) in
-    elim (is_exported r) as (λ b. StandsAt (cond b (scaled_row (factor j) r ∷ exported_rows factor (suc j) rs) (exported_rows factor (suc j) rs)) (cond b (suc (place_of rs i)) (place_of rs i)) (scaled_row (factor (j + suc i)) (get_or rs i no_row)))
+    let there : get_or (exported_rows factor (suc j) rs) (place_of rs i) no_scaled_row
+    ≡ scaled_row (factor (j + suc i)) (get_or rs i no_row) =
+    ih.there ∙ ap (λ k. scaled_row (factor k) (get_or rs i no_row)) (omega arith) in
+    elim (is_exported r) as (λ b. StandsAt (cond b (scaled_row (factor j) r ∷ exported_rows factor (suc j) rs)
+    (exported_rows factor (suc j) rs)) (cond b (suc (place_of rs i)) (place_of rs i))
+    (scaled_row (factor (j + suc i)) (get_or rs i no_row)))
     [ true ↦ record { inside = omega (arith, ih.inside); there = there } | false ↦ record { inside = ih.inside; there = there } ]
 
 -- the body less its value at the point 0
@@ -69,7 +73,8 @@ law_of_return f factor s w i xs h e =
     ∙ linear_scaled k r.body.coefficient n xs in
     ap (λ t. dual_of s w (factor i) *ℚ t) (body_less r.body n xs) ∙ regroup s w k v ∙ ap (λ t. s *ℚ w *ℚ t) (sym row)
 
-pub law_of_return_tied : (f : Linear) (factor : ℕ → ℕ) (g : ℕ) (s w : ℚ) (i : ℕ) (xs : List ℚ) (z : ℚ) → IsLinear f → length xs ≡ variable_count f → i < length f.rows → IsTrue (is_exported (row_at f i)) →
+pub law_of_return_tied : (f : Linear) (factor : ℕ → ℕ) (g : ℕ) (s w : ℚ) (i : ℕ) (xs : List ℚ) (z : ℚ) → IsLinear f
+    → length xs ≡ variable_count f → i < length f.rows → IsTrue (is_exported (row_at f i)) →
     dual_of s w (factor i) *ℚ (form_value (row_at f i).body (variable_count f) xs -ℚ form_value (row_at f i).body (variable_count f) [])
     ≡ s *ℚ w *ℚ scaled_row_value (scaled_and_tied f factor g) (xs ++ z ∷ []) (place_of f.rows i)
 law_of_return_tied f factor g s w i xs z linear count h e =
@@ -80,8 +85,12 @@ law_of_return_tied f factor g s w i xs z linear count h e =
     let at = stands factor 0 f.rows i h e in
     let first = exported_rows factor 0 f.rows in
     let t = scaled_row g (tie n f.objective) in
-    let row = ap (λ (t : ScaledRow). linear_part t.coefficient (length (f.variables ++ z_variable ∷ [])) (xs ++ z ∷ [])) (get_or-append first (t ∷ []) no_scaled_row (place_of f.rows i) at.inside ∙ at.there ∙ ap (λ t. scaled_row (factor t) r) (omega arith))
+    let row = ap (λ (t : ScaledRow). linear_part t.coefficient (length (f.variables ++ z_variable ∷ [])) (xs ++ z ∷ []))
+    (get_or-append first (t ∷ []) no_scaled_row (place_of f.rows i) at.inside ∙ at.there
+    ∙ ap (λ t. scaled_row (factor t) r) (omega arith))
     ∙ linear_scaled k r.body.coefficient (length (f.variables ++ z_variable ∷ [])) (xs ++ z ∷ [])
     ∙ ap (λ m. k *ℚ linear_part r.body.coefficient m (xs ++ z ∷ [])) (one_more f.variables z_variable)
-    ∙ ap (λ v. k *ℚ v) (linear_more n xs z count r.body.coefficient r.body.coefficient (λ j h. refl) ∙ ap (λ c. v +ℚ c *ℚ z) (linear.within i no_row h n (omega arith)) ∙ ap (λ c. v +ℚ c) (zero-*ℚ z) ∙ +ℚ_zero v) in
+    ∙ ap (λ v. k *ℚ v) (linear_more n xs z count r.body.coefficient r.body.coefficient (λ j h. refl)
+    ∙ ap (λ c. v +ℚ c *ℚ z) (linear.within i no_row h n (omega arith)) ∙ ap (λ c. v +ℚ c) (zero-*ℚ z) ∙ +ℚ_zero v)
+    in
     ap (λ t. dual_of s w (factor i) *ℚ t) (body_less r.body n xs) ∙ regroup s w k v ∙ ap (λ t. s *ℚ w *ℚ t) (sym row)

@@ -3,11 +3,11 @@ use Rattle.std.proofs.Common.{◌≡◌, ◌≢◌, ℕ, suc, ◌<◌, ◌∙◌
 use Rattle.std.specs.Prelude.{is_some, ◌||◌}
 use Rattle.std.proofs.lemmas.Int.{ints}
 use Rattle.std.proofs.lemmas.List.Elements.{All-nil, All-cons, All-head, All-tail}
-use Rattle.fractions.specs.Rational.{ℚ, zero_ℚ, whole, ◌+ℚ◌, ◌-ℚ◌, ◌*ℚ◌, neg_ℚ, ◌≤ℚ◌}
-use Rattle.fractions.proofs.Arithmetic.{+ℚ_comm, +ℚ_assoc, +ℚ_zero, +ℚ-neg, -ℚ_lem, +ℚ-≤ℚ, *ℚ_assoc, *ℚ_comm, *ℚ-≤ℚ, le_or_lt, ≤ℚ_antisymm, ≤ℚ_of_<ℚ, ≤ℚ_of_same, *ℚ_cancel, whole-≤ℚ, same_whole}
-use Rattle.fractions.proofs.Adding.{sum_below_same, sum_below-*ℚ}
-use Rattle.program_meaning.specs.Linear.{AreOrdered, Row, RowHolds, form_value, linear_part, value_at, has_side}
-use Rattle.program_meaning.proofs.Sides.{AtLeast, AtMost}
+use Rattle.exact_numbers.specs.Rational.{ℚ, zero_ℚ, whole, ◌+ℚ◌, ◌-ℚ◌, ◌*ℚ◌, neg_ℚ, ◌≤ℚ◌}
+use Rattle.exact_numbers.proofs.RationalLaws.{+ℚ_comm, +ℚ_assoc, +ℚ_zero, +ℚ-neg, -ℚ_lem, +ℚ-≤ℚ, *ℚ_assoc, *ℚ_comm, *ℚ-≤ℚ, le_or_lt, ≤ℚ_antisymm, ≤ℚ_of_<ℚ, ≤ℚ_of_same, *ℚ_cancel, whole-≤ℚ, same_whole}
+use Rattle.exact_numbers.proofs.Adding.{sum_below_same, sum_below-*ℚ}
+use Rattle.linear_program.specs.Linear.{AreOrdered, Row, RowHolds, form_value, linear_part, value_at, has_side}
+use Rattle.linear_program.proofs.Sides.{AtLeast, AtMost}
 use Rattle.scaled_program.specs.Program.{ScaledRow, scaled_side, scaled_row, exported_rows}
 use Rattle.scaled_program.specs.Meaning.{ScaledHolds}
 use Rattle.scaled_program.proofs.Sides.{there_and_back}
@@ -74,8 +74,16 @@ row_same k n xs r h =
     let v = linear_part r.body.coefficient n xs in
     let lower = lower_same q (factor_above k h) (factor_some k h) r.body.constant v r.side.lower in
     let upper = upper_same q (factor_above k h) (factor_some k h) r.body.constant v r.side.upper in (
-      λ s. record { above = lower.0 (subst (λ t. AtLeast (scaled_side q r.body.constant r.side.lower) t) e s.above); below = upper.0 (subst (λ t. AtMost (scaled_side q r.body.constant r.side.upper) t) e s.below) },
-      λ s. record { above = subst (λ t. AtLeast (scaled_side q r.body.constant r.side.lower) t) (sym e) (lower.1 s.above); below = subst (λ t. AtMost (scaled_side q r.body.constant r.side.upper) t) (sym e) (upper.1 s.below) },
+      λ s. record {
+        above = lower.0 (subst (λ t. AtLeast (scaled_side q r.body.constant r.side.lower) t) e s.above);
+        below = upper.0 (subst (λ t. AtMost (scaled_side q r.body.constant r.side.upper) t) e s.below);
+      },
+      λ s. record {
+        above = subst (λ t. AtLeast (scaled_side q r.body.constant r.side.lower) t) (sym e)
+            (lower.1 s.above);
+        below = subst (λ t. AtMost (scaled_side q r.body.constant r.side.upper) t) (sym e)
+            (upper.1 s.below);
+      },
     )
 
 -- a row without sides holds everywhere
@@ -94,8 +102,12 @@ exported_same factor n xs i (r ∷ rs) h =
     elim (has_side r.side) as (λ b. has_side r.side ≡ b →
     All (ScaledHolds n xs) (cond b (scaled_row (factor i) r ∷ exported_rows factor (suc i) rs) (exported_rows factor (suc i) rs)) ↔ All (RowHolds n xs) (r ∷ rs)) [
       | true ↦ λ e. (
-        λ s. All-cons (RowHolds n xs) r rs ((row_same (factor i) n xs r (h i)).0 (All-head (ScaledHolds n xs) (scaled_row (factor i) r) (exported_rows factor (suc i) rs) s)) (ih.0 (All-tail (ScaledHolds n xs) (scaled_row (factor i) r) (exported_rows factor (suc i) rs) s)),
-        λ s. All-cons (ScaledHolds n xs) (scaled_row (factor i) r) (exported_rows factor (suc i) rs) ((row_same (factor i) n xs r (h i)).1 (All-head (RowHolds n xs) r rs s)) (ih.1 (All-tail (RowHolds n xs) r rs s)),
+        λ s. All-cons (RowHolds n xs) r rs ((row_same (factor i) n xs r (h i)).0
+            (All-head (ScaledHolds n xs) (scaled_row (factor i) r) (exported_rows factor (suc i) rs) s))
+            (ih.0 (All-tail (ScaledHolds n xs) (scaled_row (factor i) r) (exported_rows factor (suc i) rs) s)),
+        λ s. All-cons (ScaledHolds n xs) (scaled_row (factor i) r) (exported_rows factor (suc i) rs)
+            ((row_same (factor i) n xs r (h i)).1 (All-head (RowHolds n xs) r rs s))
+            (ih.1 (All-tail (RowHolds n xs) r rs s)),
       )
       | false ↦ λ e.
           let free = no_sides r.side.lower r.side.upper (form_value r.body n xs) e in (

@@ -1,7 +1,7 @@
 -- The difference of two sides.
 use Rattle.std.proofs.Common.{◌≡◌, if◌then◌else◌, ◌∙◌, sym, ap, refl, Bool, true, false, Some, None, ◌⊎◌}
-use Rattle.fractions.specs.Rational.{ℚ, zero_ℚ, ◌+ℚ◌, ◌-ℚ◌, neg_ℚ, is_zero}
-use Rattle.fractions.proofs.Arithmetic.{+ℚ_comm, +ℚ_assoc, +ℚ_zero, +ℚ-neg, -ℚ_lem, is_zero-true}
+use Rattle.exact_numbers.specs.Rational.{ℚ, zero_ℚ, ◌+ℚ◌, ◌-ℚ◌, neg_ℚ, is_zero}
+use Rattle.exact_numbers.proofs.RationalLaws.{+ℚ_comm, +ℚ_assoc, +ℚ_zero, +ℚ-neg, -ℚ_lem, is_zero-true}
 use Rattle.scaled_program.specs.Program.{nonzero}
 
 -- l + (u - l) = u

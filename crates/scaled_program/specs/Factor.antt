@@ -1,7 +1,7 @@
 -- The numbers of a row and of an objective, and their least factors.
 use Rattle.std.specs.Prelude.{ℕ, zero, suc, List, [], ◌∷◌, ◌++◌, Option, Some, None}
-use Rattle.fractions.specs.Rational.{ℚ, ◌-ℚ◌}
-use Rattle.program_meaning.specs.Linear.{Form, Row}
+use Rattle.exact_numbers.specs.Rational.{ℚ, ◌-ℚ◌}
+use Rattle.linear_program.specs.Linear.{Form, Row}
 pub use Rattle.scaled_program.specs.Finite.{IsFinite, IsFactor, IsLeastFactor}
 use Rattle.scaled_program.specs.FactorLemmas.{a_least_factor}
 pub use Rattle.scaled_program.specs.FactorLemmas.{steps_to_cofactor, cofactor_of}

@@ -6,13 +6,13 @@ use Rattle.std.proofs.lemmas.Bool.{eqb-true, eqb-false, cases_lt, cases_Bool}
 use Rattle.std.proofs.lemmas.Int.{ints, unsigned_abs-mul}
 use Rattle.std.proofs.lemmas.Nat.Gcd.{dvd_trans, dvd_refl, dvd_antisymm, le_of_dvd}
 use Rattle.std.proofs.lemmas.List.Elements.{All-nil, All-cons, All-head, All-tail}
-use Rattle.fractions.specs.Fits.{least_multiple}
-use Rattle.fractions.specs.Divisors.{AreCoprime}
-use Rattle.fractions.specs.LowestLemmas.{gcd_of, is_gcd, dvd_other, coprime-swap, Reduced, reduced_lem}
-use Rattle.fractions.specs.Rational.{ℚ, whole, ◌*ℚ◌, decimal_value, above_zero, below_zero}
-use Rattle.fractions.proofs.Arithmetic.{decimal_value_lem}
-use Rattle.fractions.proofs.Coprimes.{coprime-pow}
-use Rattle.fractions.proofs.Values.{HasValue, sizes_of, own_value, whole_value, product_value, scaled_value, same_over}
+use Rattle.exact_numbers.specs.Fits.{least_multiple}
+use Rattle.exact_numbers.specs.Divisors.{AreCoprime}
+use Rattle.exact_numbers.specs.LowestLemmas.{gcd_of, is_gcd, dvd_other, coprime-swap, Reduced, reduced_lem}
+use Rattle.exact_numbers.specs.Rational.{ℚ, whole, ◌*ℚ◌, decimal_value, above_zero, below_zero}
+use Rattle.exact_numbers.proofs.RationalLaws.{decimal_value_lem}
+use Rattle.exact_numbers.proofs.Coprimes.{coprime-pow}
+use Rattle.exact_numbers.proofs.Values.{HasValue, sizes_of, own_value, whole_value, product_value, scaled_value, same_over}
 use Rattle.scaled_program.specs.Finite.{IsFinite, IsLeastFactor}
 
 -- ---- by divisors

@@ -1,6 +1,6 @@
 -- Factors that make fractions finite decimals.
 use Rattle.std.specs.Prelude.{◌≡◌, ℕ, ◌<◌, ◌≤◌, ℤ, pos, List, All}
-use Rattle.fractions.specs.Rational.{ℚ, whole, ◌*ℚ◌, decimal_value}
+use Rattle.exact_numbers.specs.Rational.{ℚ, whole, ◌*ℚ◌, decimal_value}
 
 -- x = m * 10 ^ e
 pub record IsFinite (x : ℚ) : Type 0 where

@@ -1,10 +1,10 @@
 -- Which numbers of a scaled program fit, which fault comes first, and the scaled program of a linear
 -- one with the least factors.
 use Rattle.std.specs.Prelude.{◌≡◌, ℕ, ◌<◌, ◌^◌, pos, IsTrue, Option, Some, None, All}
-use Rattle.fractions.specs.Fits.{fits, sum_fits}
-use Rattle.fractions.specs.Rational.{neg_ℚ, ℚ, whole, ◌-ℚ◌, ◌*ℚ◌}
+use Rattle.exact_numbers.specs.Fits.{fits, sum_fits}
+use Rattle.exact_numbers.specs.Rational.{neg_ℚ, ℚ, whole, ◌-ℚ◌, ◌*ℚ◌}
 use Rattle.scaled_program.specs.Factor.{least_factor, row_numbers, objective_numbers, coefficients_below}
-use Rattle.program_meaning.specs.Linear.{Row, Linear, variable_count, row_at}
+use Rattle.linear_program.specs.Linear.{Row, Linear, variable_count, row_at}
 use Rattle.exact_numbers.specs.Values.{FitsDec}
 use Rattle.scaled_program.specs.Program.{ScaledProgram, scaled_by, scaled_and_tied, scaled_side, nonzero, is_exported}
 

@@ -5,3 +5,5 @@ pub mod Fits
 pub mod Meaning
 pub mod Program
 pub mod Return
+pub mod Example
+pub mod ExportedProgram

@@ -1,7 +1,7 @@
 -- What a scaled program means.
 use Rattle.std.specs.Prelude.{ℕ, ◌<◌, List, length, get_or, All, IsTrue}
-use Rattle.fractions.specs.Rational.{ℚ, zero_ℚ, IsWhole}
-use Rattle.program_meaning.specs.Linear.{AreOrdered, IsInside, form_value, linear_part, no_variable, unbounded, value_at}
+use Rattle.exact_numbers.specs.Rational.{ℚ, zero_ℚ, IsWhole}
+use Rattle.linear_program.specs.Linear.{AreOrdered, IsInside, form_value, linear_part, no_variable, unbounded, value_at}
 use Rattle.scaled_program.specs.Program.{ScaledProgram, ScaledRow}
 
 -- a row of n variables at an assignment

@@ -1,7 +1,7 @@
 -- Scaled linear programs, and the one of a linear program with its factors.
 use Rattle.std.specs.Prelude.{ℕ, suc, pos, nat_eq, Bool, false, cond, if◌then◌else◌, List, [], ◌∷◌, ◌++◌, Option, Some, None}
-use Rattle.fractions.specs.Rational.{ℚ, whole, is_zero, zero_ℚ, one_ℚ, ◌-ℚ◌, ◌*ℚ◌, neg_ℚ}
-use Rattle.program_meaning.specs.Linear.{Interval, Form, Row, Variable, Linear, unbounded, variable_count, has_side}
+use Rattle.exact_numbers.specs.Rational.{ℚ, whole, is_zero, zero_ℚ, one_ℚ, ◌-ℚ◌, ◌*ℚ◌, neg_ℚ}
+use Rattle.linear_program.specs.Linear.{Interval, Form, Row, Variable, Linear, unbounded, variable_count, has_side}
 
 -- a row times its factor, its constant taken to its sides
 pub record ScaledRow : Type 0 where

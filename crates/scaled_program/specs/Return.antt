@@ -1,7 +1,7 @@
 -- Where an exported row stands in the scaled program, and its dual.
 use Rattle.std.specs.Prelude.{ℕ, zero, suc, pos, cond, List, [], ◌∷◌}
-use Rattle.fractions.specs.Rational.{ℚ, whole, ◌*ℚ◌}
-use Rattle.program_meaning.specs.Linear.{Row}
+use Rattle.exact_numbers.specs.Rational.{ℚ, whole, ◌*ℚ◌}
+use Rattle.linear_program.specs.Linear.{Row}
 use Rattle.scaled_program.specs.Program.{is_exported}
 
 -- how many of the rows before row i are exported

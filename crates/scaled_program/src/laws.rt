@@ -1,9 +1,9 @@
 // Each law is proved by a function with an empty body.
 ghost use Prim.Native.Nat.{◌∣◌};
 ghost use Rattle.std.specs.Prelude.{◌≡◌, ◌↔◌, ℕ, ◌<◌, pos, List, [], ◌∷◌, ◌++◌, length, All, IsTrue};
-ghost use Rattle.fractions.specs.Divisors.{AreCoprime};
-ghost use Rattle.fractions.specs.Rational.{ℚ, whole, ◌-ℚ◌, ◌*ℚ◌};
-ghost use Rattle.program_meaning.specs.Linear.{Linear, IsLinear, IsFeasible, objective_value, variable_count, form_value, row_at};
+ghost use Rattle.exact_numbers.specs.Divisors.{AreCoprime};
+ghost use Rattle.exact_numbers.specs.Rational.{ℚ, whole, ◌-ℚ◌, ◌*ℚ◌};
+ghost use Rattle.linear_program.specs.Linear.{Linear, IsLinear, IsFeasible, objective_value, variable_count, form_value, row_at};
 ghost use Rattle.scaled_program.specs.Factor.{IsFinite, IsLeastFactor, least_factor, cofactor_of};
 ghost use Rattle.scaled_program.specs.Meaning.{HasOrderedSides, IsScaledFeasible, scaled_objective, scaled_row_value};
 ghost use Rattle.scaled_program.specs.Program.{is_exported, scaled_and_tied, scaled_by};

@@ -1,5 +1,6 @@
-//! Scaled linear programs, each row times a factor that makes its numbers finite decimals, and that
-//! they mean the same. There is no code.
+// Scaled linear programs and the MPS programs of them, and that they mean the same. There is no
+// code.
 #![tactic(auto)]
 
+pub mod exported_laws;
 pub mod laws;

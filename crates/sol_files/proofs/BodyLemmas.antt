@@ -9,13 +9,15 @@ use Rattle.exact_numbers.specs.Numbers.{whole_of}
 use Rattle.sol_files.specs.declared.awaited.Awaited.{Awaited}
 use Rattle.sol_files.specs.declared.awaited.Awaited.TheVariants.{OptionCount, Options, Constraints, DualCount, Variables, PrimalCount, Duals, Primals, Tail}
 use Rattle.sol_files.specs.Rows.{Row, table_size, number_in, option_in, value_in, objno_in}
-use Rattle.texts.specs.Words.{begins}
+use Rattle.text_base.specs.Words.{begins}
 use Rattle.sol_files.specs.Parts.{Piece, Body, row_number, option_count, constraint_count, dual_count, variable_count, primal_count}
 use Rattle.sol_files.specs.Saying.{option_rows, dual_rows, primal_rows, rows_past, suffix_of, sol_of}
 use Rattle.sol_files.specs.Progress.{Progress}
 use Rattle.sol_files.specs.Steps.{listed, or_else, options_await, values_await, after_row}
 use Rattle.sol_files.proofs.RowLemmas.{number-at, number-other, part_none, part_past, part_more, rest_none, rest_more}
-use Rattle.sol_files.proofs.PlaceLemmas.{row_at, rows_left, body_left, Place, first, option, constraints, duals, variables, primals, dual, primal, past, place, after_counts, after_option_row, after_dual_row, after_primal_row, after_past_row}
+use Rattle.sol_files.proofs.PlaceLemmas.{row_at, rows_left, body_left, Place, first, option, constraints, duals}
+use Rattle.sol_files.proofs.PlaceLemmas.{variables, primals, dual, primal, past, place, after_counts, after_option_row}
+use Rattle.sol_files.proofs.PlaceLemmas.{after_dual_row, after_primal_row, after_past_row}
 use Rattle.std.proofs.lemmas.Bool.Decides.{eqb_tells}
 
 -- how many table lines suffixes announce together, and how many values they have so far
@@ -88,7 +90,9 @@ met_rows : (message : List (List ℕ)) (rows : List Row) → met message (only_r
 unfolding met only_rows with_numbers numbers_of sol_of
 met_rows message rows = refl
 
-same_numbers : (x y : Numbers) → x.awaited ≡ y.awaited → x.options ≡ y.options → x.n_con ≡ y.n_con → x.duals ≡ y.duals → x.n_var ≡ y.n_var → x.primals ≡ y.primals → x.objno ≡ y.objno → x.dual_count ≡ y.dual_count → x.primal_count ≡ y.primal_count → x ≡ y
+same_numbers : (x y : Numbers) → x.awaited ≡ y.awaited → x.options ≡ y.options → x.n_con ≡ y.n_con → x.duals ≡ y.duals
+    → x.n_var ≡ y.n_var → x.primals ≡ y.primals → x.objno ≡ y.objno → x.dual_count ≡ y.dual_count
+    → x.primal_count ≡ y.primal_count → x ≡ y
 same_numbers x y a o c d v p n e f = λ i. record { awaited = a i; options = o i; n_con = c i; duals = d i; n_var = v i; primals = p i; objno = n i; dual_count = e i; primal_count = f i }
 
 -- ---- numbers of rows
@@ -137,7 +141,8 @@ module _ (rows : List Row) (row : Row) (begun : 0 < length rows) where
   objno_none : length rows < option_count rows + 5 → slice_get (filter_map objno_in (rows_past (rows ++ row ∷ []))) 0 ≡ slice_get (filter_map objno_in (rows_past rows)) 0
   objno_none lt =
       ap (λ xs. slice_get xs 0)
-      (past_none (option_count (rows ++ row ∷ []) + 5 + dual_count (rows ++ row ∷ []) + primal_count (rows ++ row ∷ [])) (option_count rows + 5 + dual_count rows + primal_count rows) (omega (arith, option_count_kept)) (omega arith))
+      (past_none (option_count (rows ++ row ∷ []) + 5 + dual_count (rows ++ row ∷ []) + primal_count (rows ++ row ∷ []))
+      (option_count rows + 5 + dual_count rows + primal_count rows) (omega (arith, option_count_kept)) (omega arith))
 
   -- among the values
   module _ (late : option_count rows + 5 ≤ length rows) where
@@ -177,16 +182,25 @@ module _ (rows : List Row) (row : Row) (begun : 0 < length rows) where
         ∙ part_none value_in (rows ++ row ∷ []) (option_count rows + 5 + dual_count rows) (primal_count rows) (omega (arith, length_push rows row))
         ∙ sym (part_none value_in rows (option_count rows + 5 + dual_count rows) (primal_count rows) (omega arith))
 
-    primals_more : option_count rows + 5 + dual_count rows ≤ length rows → length rows < option_count rows + 5 + dual_count rows + primal_count rows → filter_map value_in (primal_rows (rows ++ row ∷ [])) ≡ filter_map value_in (primal_rows rows) ++ listed (value_in row)
+    primals_more : option_count rows + 5 + dual_count rows ≤ length rows
+        → length rows < option_count rows + 5 + dual_count rows + primal_count rows
+        → filter_map value_in (primal_rows (rows ++ row ∷ []))
+        ≡ filter_map value_in (primal_rows rows) ++ listed (value_in row)
     primals_more le lt = primal_part ∙ part_more value_in rows row (option_count rows + 5 + dual_count rows) (primal_count rows) le lt
 
     primals_same : option_count rows + 5 + dual_count rows + primal_count rows ≤ length rows → filter_map value_in (primal_rows (rows ++ row ∷ [])) ≡ filter_map value_in (primal_rows rows)
     primals_same le = primal_part ∙ part_past value_in rows row (option_count rows + 5 + dual_count rows) (primal_count rows) le
 
-    objno_later : length rows < option_count rows + 5 + dual_count rows + primal_count rows → slice_get (filter_map objno_in (rows_past (rows ++ row ∷ []))) 0 ≡ slice_get (filter_map objno_in (rows_past rows)) 0
-    objno_later lt = ap (λ rs. slice_get (filter_map objno_in rs) 0) past_part ∙ ap (λ xs. slice_get xs 0) (rest_none objno_in rows row (option_count rows + 5 + dual_count rows + primal_count rows) lt)
+    objno_later : length rows < option_count rows + 5 + dual_count rows + primal_count rows
+        → slice_get (filter_map objno_in (rows_past (rows ++ row ∷ []))) 0
+        ≡ slice_get (filter_map objno_in (rows_past rows)) 0
+    objno_later lt = ap (λ rs. slice_get (filter_map objno_in rs) 0) past_part
+        ∙ ap (λ xs. slice_get xs 0) (rest_none objno_in rows row
+        (option_count rows + 5 + dual_count rows + primal_count rows) lt)
 
-    objno_more : option_count rows + 5 + dual_count rows + primal_count rows ≤ length rows → slice_get (filter_map objno_in (rows_past (rows ++ row ∷ []))) 0 ≡ or_else (slice_get (filter_map objno_in (rows_past rows)) 0) (objno_in row)
+    objno_more : option_count rows + 5 + dual_count rows + primal_count rows ≤ length rows
+        → slice_get (filter_map objno_in (rows_past (rows ++ row ∷ []))) 0
+        ≡ or_else (slice_get (filter_map objno_in (rows_past rows)) 0) (objno_in row)
     objno_more le =
         ap (λ rs. slice_get (filter_map objno_in rs) 0) past_part ∙ ap (λ xs. slice_get xs 0) (rest_more objno_in rows row (option_count rows + 5 + dual_count rows + primal_count rows) le)
         ∙ first_listed (filter_map objno_in (rows_past rows)) (objno_in row)
@@ -215,14 +229,20 @@ module _ (message : List (List ℕ)) (rows : List Row) (row : Row) where
       λ j lt. count (option_count (rows ++ row ∷ []) + j) (λ e. omega (arith, e, lt)) ∙ none_yet rows (option_count (rows ++ row ∷ []) + j) z ∙ sym (none_yet rows (option_count rows + j) z) in
       becomes (record (numbers_of rows) { awaited = options_await (number_in row 0) })
       (same_numbers (numbers_of (rows ++ row ∷ [])) (record (numbers_of rows) { awaited = options_await (number_in row 0) })
-      (ap₂ (λ k i. row_at k (dual_count (rows ++ row ∷ [])) (primal_count (rows ++ row ∷ [])) i) options len ∙ (after_counts (number_in row 0) (dual_count (rows ++ row ∷ [])) (primal_count (rows ++ row ∷ []))).0)
+      (ap₂ (λ k i. row_at k (dual_count (rows ++ row ∷ [])) (primal_count (rows ++ row ∷ [])) i) options len
+      ∙ (after_counts (number_in row 0) (dual_count (rows ++ row ∷ [])) (primal_count (rows ++ row ∷ []))).0)
       (part_none option_in (rows ++ row ∷ []) 1 (option_count (rows ++ row ∷ [])) (omega arith) ∙ sym (part_none option_in rows 1 (option_count rows) (omega arith)))
       (other 1 (omega arith))
-      (part_none value_in (rows ++ row ∷ []) (option_count (rows ++ row ∷ []) + 5) (dual_count (rows ++ row ∷ [])) (omega arith) ∙ sym (part_none value_in rows (option_count rows + 5) (dual_count rows) (omega arith)))
+      (part_none value_in (rows ++ row ∷ []) (option_count (rows ++ row ∷ []) + 5) (dual_count (rows ++ row ∷ []))
+      (omega arith) ∙ sym (part_none value_in rows (option_count rows + 5) (dual_count rows) (omega arith)))
       (other 3 (omega arith))
-      (part_none value_in (rows ++ row ∷ []) (option_count (rows ++ row ∷ []) + 5 + dual_count (rows ++ row ∷ [])) (primal_count (rows ++ row ∷ [])) (omega arith) ∙ sym (part_none value_in rows (option_count rows + 5 + dual_count rows) (primal_count rows) (omega arith)))
+      (part_none value_in (rows ++ row ∷ []) (option_count (rows ++ row ∷ []) + 5 + dual_count (rows ++ row ∷ []))
+      (primal_count (rows ++ row ∷ [])) (omega arith) ∙ sym
+      (part_none value_in rows (option_count rows + 5 + dual_count rows) (primal_count rows) (omega arith)))
       (ap (λ rs. slice_get (filter_map objno_in rs) 0)
-      (drop_all (option_count (rows ++ row ∷ []) + 5 + dual_count (rows ++ row ∷ []) + primal_count (rows ++ row ∷ [])) (rows ++ row ∷ []) (omega arith) ∙ sym (drop_all (option_count rows + 5 + dual_count rows + primal_count rows) rows (omega arith))))
+      (drop_all (option_count (rows ++ row ∷ []) + 5 + dual_count (rows ++ row ∷ []) + primal_count (rows ++ row ∷ []))
+      (rows ++ row ∷ []) (omega arith) ∙ sym (drop_all (option_count rows + 5 + dual_count rows + primal_count rows)
+      rows (omega arith))))
       (other 2 (omega arith))
       (other 4 (omega arith)))
 
@@ -231,22 +251,34 @@ module _ (message : List (List ℕ)) (rows : List Row) (row : Row) where
     abbrev number_after : ℕ → ℕ → ℕ
     number_after i j = cond (j == i) (number_in row 0) (row_number rows (option_count rows + j))
 
-    numbered : (i j : ℕ) → (length rows ≡ option_count rows + j → j ≡ i) → (j ≡ i → length rows ≡ option_count rows + j) → row_number (rows ++ row ∷ []) (option_count (rows ++ row ∷ []) + j) ≡ number_after i j
+    numbered : (i j : ℕ) → (length rows ≡ option_count rows + j → j ≡ i) → (j ≡ i → length rows ≡ option_count rows + j)
+        → row_number (rows ++ row ∷ []) (option_count (rows ++ row ∷ []) + j) ≡ number_after i j
     numbered i j only there = elim (eqb_tells j i) [
       | inl same ↦ rw same.0 (count_at rows row begun j (there same.1))
       | inr other ↦ rw other.0 (count_other rows row begun j (λ e. other.1 (only e)))
     ]
 
-    early : (i : ℕ) (a : Awaited) (options : List ℤ) → length rows < option_count rows + 5 → ((j : ℕ) → 0 < j → length rows ≡ option_count rows + j → j ≡ i) → (0 < i → length rows ≡ option_count rows + i)
+    early : (i : ℕ) (a : Awaited) (options : List ℤ) → length rows < option_count rows + 5
+        → ((j : ℕ) → 0 < j → length rows ≡ option_count rows + j → j ≡ i) → (0 < i → length rows ≡ option_count rows + i)
         → rows_left (rows ++ row ∷ []) ≡ a
         → filter_map option_in (option_rows (rows ++ row ∷ [])) ≡ options
         → met message (only_rows (rows ++ row ∷ []))
-        ≡ with_numbers message (record (numbers_of rows) { awaited = a; options = options; n_con = number_after i 1; n_var = number_after i 3; dual_count = number_after i 2; primal_count = number_after i 4 })
+        ≡ with_numbers message (record (numbers_of rows) {
+          awaited = a;
+          options = options;
+          n_con = number_after i 1;
+          n_var = number_after i 3;
+          dual_count = number_after i 2;
+          primal_count = number_after i 4;
+        })
     unfolding numbers_of
     early i a options lt only there e1 e2 =
-        let n : (j : ℕ) → 0 < j → row_number (rows ++ row ∷ []) (option_count (rows ++ row ∷ []) + j) ≡ number_after i j = λ j some. numbered i j (only j some) (λ e. rw e (there (omega (arith, some, e)))) in
+        let n : (j : ℕ) → 0 < j → row_number (rows ++ row ∷ []) (option_count (rows ++ row ∷ []) + j)
+        ≡ number_after i j = λ j some. numbered i j (only j some) (λ e. rw e (there (omega (arith, some, e)))) in
         becomes _
-        (same_numbers (numbers_of (rows ++ row ∷ [])) _ e1 e2 (n 1 (omega arith)) (duals_none rows row begun lt) (n 3 (omega arith)) (primals_none rows row begun lt) (objno_none rows row begun lt) (n 2 (omega arith)) (n 4 (omega arith)))
+        (same_numbers (numbers_of (rows ++ row ∷ [])) _ e1 e2 (n 1 (omega arith)) (duals_none rows row begun lt)
+        (n 3 (omega arith)) (primals_none rows row begun lt) (objno_none rows row begun lt) (n 2 (omega arith))
+        (n 4 (omega arith)))
 
     -- the row that is awaited, by what the numbers become
     await_early : (k d p i : ℕ) → option_count rows ≡ k → length rows + 1 ≡ i → rows_left (rows ++ row ∷ []) ≡ row_at k (dual_count (rows ++ row ∷ [])) (primal_count (rows ++ row ∷ [])) i
@@ -255,8 +287,12 @@ module _ (message : List (List ℕ)) (rows : List Row) (row : Row) where
     option_next : length rows ≤ option_count rows → Meets (Options ((option_count rows + 1) - length rows))
     unfolding after_row with_numbers numbers_of met only_rows sol_of
     option_next le =
-        early 0 (options_await (((option_count rows + 1) - length rows) - 1)) (filter_map option_in (option_rows rows) ++ listed (option_in row)) (omega arith) (λ j some e. absurd (omega (arith, some, e))) (λ some. absurd (omega arith))
-        (await_early (option_count rows) 0 0 (length rows + 1) refl refl ∙ after_option_row (option_count rows) (dual_count (rows ++ row ∷ [])) (primal_count (rows ++ row ∷ [])) (length rows) begun le)
+        early 0 (options_await (((option_count rows + 1) - length rows) - 1))
+        (filter_map option_in (option_rows rows) ++ listed (option_in row)) (omega arith)
+        (λ j some e. absurd (omega (arith, some, e))) (λ some. absurd (omega arith))
+        (await_early (option_count rows) 0 0 (length rows + 1) refl refl
+        ∙ after_option_row (option_count rows) (dual_count (rows ++ row ∷ [])) (primal_count (rows ++ row ∷ []))
+        (length rows) begun le)
         (options_more rows row begun le)
 
     constraints_next : length rows ≡ option_count rows + 1 → Meets Constraints
@@ -286,7 +322,9 @@ module _ (message : List (List ℕ)) (rows : List Row) (row : Row) where
         let duals : dual_count (rows ++ row ∷ []) ≡ dual_count rows = count_other rows row begun 2 (λ e. omega (arith, e)) in
         let primals : primal_count (rows ++ row ∷ []) ≡ number_in row 0 = count_at rows row begun 4 at in
         early 4 (values_await (dual_count rows) (number_in row 0)) (filter_map option_in (option_rows rows)) (omega arith) (λ j some e. omega (arith, e)) (λ some. at)
-        (await_early (option_count rows) 0 0 (option_count rows + 5) refl (omega arith) ∙ (after_counts (option_count rows) (dual_count (rows ++ row ∷ [])) (primal_count (rows ++ row ∷ []))).4 ∙ ap₂ values_await duals primals)
+        (await_early (option_count rows) 0 0 (option_count rows + 5) refl (omega arith)
+        ∙ (after_counts (option_count rows) (dual_count (rows ++ row ∷ [])) (primal_count (rows ++ row ∷ []))).4
+        ∙ ap₂ values_await duals primals)
         (options_same rows row begun (omega arith))
 
     -- among the values
@@ -310,7 +348,9 @@ module _ (message : List (List ℕ)) (rows : List Row) (row : Row) where
         (after_dual_row (option_count rows) (dual_count rows) (primal_count rows) (length rows) late lt)
         (duals_more rows row begun late lt) (primals_later rows row begun late lt) (objno_later rows row begun late (omega arith))
 
-    primal_next : option_count rows + 5 + dual_count rows ≤ length rows → length rows < option_count rows + 5 + dual_count rows + primal_count rows → Meets (Primals ((option_count rows + 5 + dual_count rows + primal_count rows) - length rows))
+    primal_next : option_count rows + 5 + dual_count rows ≤ length rows
+        → length rows < option_count rows + 5 + dual_count rows + primal_count rows
+        → Meets (Primals ((option_count rows + 5 + dual_count rows + primal_count rows) - length rows))
     unfolding after_row with_numbers numbers_of met only_rows sol_of
     primal_next le lt =
         let late : option_count rows + 5 ≤ length rows = omega arith in
@@ -340,6 +380,8 @@ module _ (message : List (List ℕ)) (rows : List Row) (row : Row) where
   by_place Tail e other (past le) = past_next (omega arith) e (other refl) le
   by_place a e other h = elim h [ ]
 
-  pub row_more : (rows_left rows ≡ Tail → begins row (codes "suffix") ≡ false) → met message (record { rows = rows ++ row ∷ []; pieces = [] }) ≡ after_row (rows_left rows) (met message (record { rows = rows; pieces = [] })) row
+  pub row_more : (rows_left rows ≡ Tail → begins row (codes "suffix") ≡ false)
+      → met message (record { rows = rows ++ row ∷ []; pieces = [] })
+      ≡ after_row (rows_left rows) (met message (record { rows = rows; pieces = [] })) row
   unfolding only_rows
   row_more other = by_place (rows_left rows) refl other (place (option_count rows) (dual_count rows) (primal_count rows) (length rows))

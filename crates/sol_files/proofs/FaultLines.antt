@@ -2,9 +2,9 @@
 -- for the line before is not found at the first.
 use Rattle.std.proofs.Common.{◌≡◌, ℕ, ◌<◌, Bool, false, List, [], ◌∷◌, Some, inl, inr, refl, arith}
 use Rattle.std.specs.Prelude.{if◌then◌else◌}
-use Rattle.texts.specs.Judged.{Last, Open, Bad, End, HasFaultAt, first_fault_of, first_reason, last_reason}
-use Rattle.texts.specs.Reading.{IsLineOf, last_of, lines_of}
-use Rattle.texts.proofs.JudgedLemmas.{fault_at, fault_behind, fault_line, fault_place}
+use Rattle.text_base.specs.Judged.{Last, Open, Bad, End, HasFaultAt, first_fault_of, first_reason, last_reason}
+use Rattle.text_base.specs.Reading.{IsLineOf, last_of, lines_of}
+use Rattle.text_base.proofs.JudgedLemmas.{fault_at, fault_behind, fault_line, fault_place}
 use Rattle.sol_files.specs.Grammar.{sol_rules}
 use Rattle.sol_files.specs.Reader.{HasSolFault}
 use Rattle.sol_files.specs.Standing.{standing}

@@ -3,17 +3,17 @@ use Rattle.std.proofs.Common.{◌≡◌, ◌∙◌, ℕ, ◌<◌, Bool, true, fa
 use Rattle.std.specs.Prelude.{IfErr, OnOk, unwrap_or, nat_le, ◌^◌, ◌==◌, ◌||◌, ◌&&◌, is_none, length}
 use Rattle.std.specs.Option.{option_map_or}
 use Rattle.std.proofs.lemmas.Bool.{ltb-true, not-false}
-use Rattle.texts.specs.Judged.{first_reason}
+use Rattle.text_base.specs.Judged.{first_reason}
 use Rattle.exact_numbers.specs.Numbers.{are_digits, dec_of, whole_of, is_whole}
 use Rattle.sol_files.specs.declared.fault.Refusal.{Refusal}
 use Rattle.sol_files.specs.declared.fault.Refusal.TheVariants.{Here}
 use Rattle.sol_files.specs.declared.fault.SolReason.{SolReason}
 use Rattle.sol_files.specs.declared.fault.SolReason.TheVariants.{BadLine, BadNumber, IndexOut, RepeatedIndex, TooLarge}
 use Rattle.sol_files.specs.Rows.{Row, number_in}
-use Rattle.texts.specs.Words.{word_at}
+use Rattle.text_base.specs.Words.{word_at}
 use Rattle.sol_files.specs.Standing.{Standing}
 use Rattle.sol_files.specs.Tests.{Tests, is_below, has_index, index_limit, last_kind, last_values, value_tests}
-use Rattle.shared_parts.specs.SuffixKinds.{wants_whole}
+use Rattle.nl_model.specs.SuffixKinds.{wants_whole}
 use Rattle.sol_files.specs.InsideJudging.{marked_value_tests}
 use Rattle.sol_files.specs.InsideHeld.{AreMarked}
 
@@ -27,7 +27,9 @@ pub is_number : (limit : ℕ) (o : Option ℕ) → is_below limit o ≡ true →
 is_number limit None e = absurd cc
 is_number limit (Some n) e = ltb-true n limit e
 
-pub judged : (s : Standing) (m : List Bool) (limit : ℕ) (whole_only : Bool) (count : ℕ) (words : Row) → AreMarked s.sol m → limit ≡ index_limit s.sol → whole_only ≡ wants_whole (last_kind s.sol.suffixes) → count ≡ s.value_count
+pub judged : (s : Standing) (m : List Bool) (limit : ℕ) (whole_only : Bool) (count : ℕ) (words : Row)
+    → AreMarked s.sol m → limit ≡ index_limit s.sol → whole_only ≡ wants_whole (last_kind s.sol.suffixes)
+    → count ≡ s.value_count
     → first_reason (marked_value_tests limit whole_only m count words) ≡ first_reason (value_tests s words)
 judged s m limit whole_only count words h e f g =
     let value = dec_of (word_at words 1) in
@@ -43,6 +45,7 @@ pub judged_ok : {A : Type 0} (r : Result A SolReason) (xs ys : Tests) → first_
 judged_ok (Ok x) xs ys e h = sym e ∙ h
 judged_ok (Err stop) xs ys e h = tt
 
-pub judged_err : {A : Type 0} (r : Result A SolReason) (xs ys : Tests) → first_reason xs ≡ first_reason ys → IfErr r (λ reason. first_reason xs ≡ Some (Here reason)) → IfErr r (λ reason. first_reason ys ≡ Some (Here reason))
+pub judged_err : {A : Type 0} (r : Result A SolReason) (xs ys : Tests) → first_reason xs ≡ first_reason ys
+    → IfErr r (λ reason. first_reason xs ≡ Some (Here reason)) → IfErr r (λ reason. first_reason ys ≡ Some (Here reason))
 judged_err (Ok x) xs ys e h = tt
 judged_err (Err reason) xs ys e h = sym e ∙ h

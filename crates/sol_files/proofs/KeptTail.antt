@@ -1,5 +1,7 @@
 -- What is kept by lines of the message, and by those after the values.
-use Rattle.std.proofs.Common.{◌≡◌, ◌∙◌, ℕ, suc, ◌+◌, ◌-◌, ◌<◌, ◌≤◌, ◌^◌, ℤ, Bool, true, false, not, ◌&&◌, ◌||◌, cond, List, [], ◌∷◌, ◌++◌, length, Option, Some, None, refl, sym, ap, subst, arith, ◌==◌, nat_lt, append_assoc}
+use Rattle.std.proofs.Common.{◌≡◌, ◌∙◌, ℕ, suc, ◌+◌, ◌-◌, ◌<◌, ◌≤◌, ◌^◌, ℤ, Bool, true, false, not, ◌&&◌, ◌||◌, cond}
+use Rattle.std.proofs.Common.{List, [], ◌∷◌, ◌++◌, length, Option, Some, None, refl, sym, ap, subst, arith, ◌==◌}
+use Rattle.std.proofs.Common.{nat_lt, append_assoc}
 use Rattle.std.specs.Prelude.{IfSome, is_none, is_some, unwrap_or, codes}
 use Rattle.std.specs.Option.{option_map_or}
 use Rattle.std.proofs.lemmas.Slice.Eq.{bytes_eq-Decides}
@@ -11,12 +13,12 @@ use Rattle.std.proofs.lemmas.List.Sums.{sum_by-cons, sum_by_push}
 use Rattle.exact_numbers.specs.declared.dec.Dec.{Dec}
 use Rattle.exact_numbers.specs.Numbers.{are_digits, dec_of, is_whole, signed_of, whole_of}
 use Rattle.exact_numbers.proofs.NumberLemmas.{signed_of-fits}
-use Rattle.shared_parts.specs.SuffixKinds.{object_limit, wants_whole}
-use Rattle.texts.specs.Cut.{IsTextLine}
-use Rattle.texts.specs.Judged.{first_reason}
-use Rattle.texts.proofs.FirstReasons.{none_each}
-use Rattle.texts.specs.Names.{is_name}
-use Rattle.texts.specs.Words.{word_at, begins}
+use Rattle.nl_model.specs.SuffixKinds.{object_limit, wants_whole}
+use Rattle.text_base.specs.Cut.{IsTextLine}
+use Rattle.text_base.specs.Judged.{first_reason}
+use Rattle.text_base.proofs.FirstReasons.{none_each}
+use Rattle.text_base.specs.Names.{is_name}
+use Rattle.text_base.specs.Words.{word_at, begins}
 use Rattle.sol_files.specs.declared.fault.Refusal.TheVariants.{Here, Late as IsLate}
 use Rattle.sol_files.specs.declared.fault.SolReason.TheVariants.{Extra, TooLarge}
 use Rattle.sol_files.specs.declared.awaited.Awaited.TheVariants.{Message, Tail, Name, Table, Values}
@@ -27,7 +29,9 @@ use Rattle.sol_files.specs.Parts.{is_options, change_last, last_of}
 use Rattle.sol_files.specs.Standing.{message_count}
 use Rattle.sol_files.specs.Progress.{Progress, kind_of, seen}
 use Rattle.sol_files.specs.Built.{with_table_line}
-use Rattle.sol_files.specs.Tests.{row_tests, tail_tests, message_tests, name_tests, is_below, objno_tests, suffix_tests, has_table_room, are_head_numbers, has_index, index_limit, last_kind, last_values, value_tests}
+use Rattle.sol_files.specs.Tests.{row_tests, tail_tests, message_tests, name_tests, is_below, objno_tests, suffix_tests}
+use Rattle.sol_files.specs.Tests.{has_table_room, are_head_numbers, has_index, index_limit, last_kind, last_values}
+use Rattle.sol_files.specs.Tests.{value_tests}
 use Rattle.sol_files.specs.Steps.{after_message, after_row, after_name, after_table, after_objno, after_suffix_head, held_lines, lines_with, listed, or_else, named_suffix, rest_awaits, with_values}
 use Rattle.sol_files.specs.Written.{IsSaidLine, IsSignedPair, IsWritableSuffix, are_values}
 use Rattle.sol_files.proofs.ShortWords.{row-line}
@@ -35,7 +39,7 @@ use Rattle.sol_files.proofs.Kept.{Speaks, HasOptions, Late, KeptAt, KeepsAt, Kee
 use Rattle.sol_files.proofs.KeptRows.{IsThere, fine_next, is_there}
 use Rattle.sol_files.proofs.JudgingLemmas.{is_number}
 use Rattle.sol_files.proofs.LastLemmas.{length_changed}
-use Rattle.texts.proofs.AllLemmas.{all_push}
+use Rattle.text_base.proofs.AllLemmas.{all_push}
 
 -- ---- the message
 
@@ -55,7 +59,9 @@ both_false true b e f = absurd cc
 both_false false b e f = refl
 
 -- a line more, where the message has room for it
-speaks_more : (message : List (List ℕ)) (held : Bool) (line : List ℕ) → Speaks message held → IsSaidLine line → length message + cond held 1 0 < 65537 → (((length message + cond held 1 0) == 65536) && not (length line == 0)) ≡ false
+speaks_more : (message : List (List ℕ)) (held : Bool) (line : List ℕ) → Speaks message held → IsSaidLine line
+    → length message + cond held 1 0 < 65537 → (((length message + cond held 1 0) == 65536) && not (length line == 0))
+    ≡ false
     → Speaks (lines_with (message ++ held_lines held) line) (length line == 0)
 speaks_more message held line h one room test = by (length line == 0) refl
   where
@@ -80,15 +86,40 @@ kept_message s line text is h f = by (is_options line) refl
     by : (b : Bool) → is_options line ≡ b → Keeps (after_message s line)
     by true e =
         let room = h.said.room in
-        rw e (record { said = record { each = h.said.each; room = room; count = omega (arith, room) }; options = h.options; n_con = h.n_con; n_var = h.n_var; objno = h.objno; rest = (record { duals = h.rest.0.duals; primals = h.rest.0.primals }, h.rest.1) })
+        rw e (record {
+          said = record { each = h.said.each; room = room; count = omega (arith, room) };
+          options =
+              h.options;
+          n_con = h.n_con;
+          n_var = h.n_var;
+          objno = h.objno;
+          rest =
+              (record { duals = h.rest.0.duals; primals = h.rest.0.primals }, h.rest.1);
+        })
     by false e =
-        let tests : first_reason (((true && (message_count (seen s) == 65537)) && true, IsLate) ∷ (((message_count (seen s) == 65536) && true) && not (length line == 0), Here TooLarge) ∷ []) ≡ None = rw (is, e) at f in
+        let tests : first_reason (((true && (message_count (seen s) == 65537)) && true, IsLate)
+        ∷ (((message_count (seen s) == 65536) && true) && not (length line == 0), Here TooLarge) ∷ []) ≡ None =
+        rw (is, e) at f in
         let one = fine_next ((true && (message_count (seen s) == 65537)) && true) IsLate _ tests in
         let two = fine_next (((message_count (seen s) == 65536) && true) && not (length line == 0)) (Here TooLarge) None one.1 in
         let count = h.said.count in
         let less = eqb-false (message_count (seen s)) 65537 (both_false (message_count (seen s) == 65537) true one.0 refl) in
-        let said = speaks_more s.sol.message s.is_held_back line h.said (record { line_of_text = text; other = e }) (omega (arith, count, less)) (with_true (message_count (seen s) == 65536) (not (length line == 0)) two.0) in
-        let kept : KeepsAt Message (record s { is_held_back = length line == 0; sol = record s.sol { message = lines_with (s.sol.message ++ held_lines s.is_held_back) line } }) = record { said = said; options = h.options; n_con = h.n_con; n_var = h.n_var; objno = h.objno; rest = (record { duals = h.rest.0.duals; primals = h.rest.0.primals }, h.rest.1) } in
+        let said = speaks_more s.sol.message s.is_held_back line h.said (record { line_of_text = text; other = e })
+        (omega (arith, count, less)) (with_true (message_count (seen s) == 65536) (not (length line == 0)) two.0) in
+        let kept : KeepsAt Message (record s {
+          is_held_back = length line == 0;
+          sol =
+              record s.sol { message = lines_with (s.sol.message ++ held_lines s.is_held_back) line };
+        }) =
+        record {
+          said = said;
+          options = h.options;
+          n_con = h.n_con;
+          n_var = h.n_var;
+          objno = h.objno;
+          rest =
+              (record { duals = h.rest.0.duals; primals = h.rest.0.primals }, h.rest.1);
+        } in
         rw e (subst (λ a. KeepsAt a (record s { is_held_back = length line == 0; sol = record s.sol { message = lines_with (s.sol.message ++ held_lines s.is_held_back) line } })) (sym is) kept)
       where
         with_true : (a b : Bool) → ((a && true) && b) ≡ false → (a && b) ≡ false
@@ -97,7 +128,9 @@ kept_message s line text is h f = by (is_options line) refl
 
 -- ---- the number of the objective
 
-objno_fits : (words : Row) → is_none (signed_of (word_at words 1)) ≡ false → is_none (signed_of (word_at words 2)) ≡ false → IfSome (both (signed_of (word_at words 1)) (signed_of (word_at words 2))) IsSignedPair
+objno_fits : (words : Row) → is_none (signed_of (word_at words 1)) ≡ false
+    → is_none (signed_of (word_at words 2)) ≡ false → IfSome (both (signed_of (word_at words 1))
+    (signed_of (word_at words 2))) IsSignedPair
 objno_fits words e f =
     let number = is_there (signed_of (word_at words 1)) e in
     let code = is_there (signed_of (word_at words 2)) f in
@@ -107,7 +140,8 @@ objno_kept : (o n : Option (ℤ × ℤ)) → IfSome o IsSignedPair → IfSome n 
 objno_kept None n old new = new
 objno_kept (Some t) n old new = old
 
-objno_in_fits : (words : Row) → begins words (codes "objno") ≡ true → is_none (signed_of (word_at words 1)) ≡ false → is_none (signed_of (word_at words 2)) ≡ false → IfSome (objno_in words) IsSignedPair
+objno_in_fits : (words : Row) → begins words (codes "objno") ≡ true → is_none (signed_of (word_at words 1)) ≡ false
+    → is_none (signed_of (word_at words 2)) ≡ false → IfSome (objno_in words) IsSignedPair
 objno_in_fits words b e f = rw b (objno_fits words e f)
 
 -- ---- the first line of a suffix
@@ -157,7 +191,9 @@ kept_head s words h f =
       );
     }
 
-kept_objno : (s : Progress) (words : Row) → begins words (codes "objno") ≡ true → KeepsAt Tail s → first_reason (objno_tests (is_some s.sol.objno || nat_lt 0 s.suffix_count) words) ≡ None → KeepsAt Tail (after_objno s words)
+kept_objno : (s : Progress) (words : Row) → begins words (codes "objno") ≡ true → KeepsAt Tail s
+    → first_reason (objno_tests (is_some s.sol.objno || nat_lt 0 s.suffix_count) words) ≡ None
+    → KeepsAt Tail (after_objno s words)
 unfolding KeptAt
 kept_objno s words b h f =
     let all = none_each (objno_tests (is_some s.sol.objno || nat_lt 0 s.suffix_count) words) f in
@@ -201,7 +237,9 @@ less_rows s rows h =
     let old = h.1 in
     (h.0, record { each = old.each; begun = old.begun; begun_room = old.begun_room; tables = omega (arith, old.tables); table_room = old.table_room; values = old.values; value_room = old.value_room })
 
-await_rest : (s : Progress) (t v : ℕ) → Speaks s.sol.message s.is_held_back → HasOptions 0 s.sol.options → s.sol.n_con ≤ 2 ^ 20 → s.sol.n_var ≤ 2 ^ 20 → IfSome s.sol.objno IsSignedPair → Late 0 t s → KeepsAt (rest_awaits t v) s
+await_rest : (s : Progress) (t v : ℕ) → Speaks s.sol.message s.is_held_back → HasOptions 0 s.sol.options
+    → s.sol.n_con ≤ 2 ^ 20 → s.sol.n_var ≤ 2 ^ 20 → IfSome s.sol.objno IsSignedPair → Late 0 t s
+    → KeepsAt (rest_awaits t v) s
 unfolding KeptAt
 await_rest s t v said options con var objno late = by (nat_lt 0 t) (nat_lt 0 v) refl refl
   where
@@ -222,7 +260,15 @@ kept_name s head words h f =
     await_rest next head.table_lines head.value_count h.said h.options h.n_con h.n_var h.objno (
       h.rest.1.0,
       record {
-        each = all_push (IsWritableSuffix s.sol.n_var s.sol.n_con) s.sol.suffixes x old.each (record { kind = fits.kind; name = (and_parts _ _ is).1; name_len = fits.name_len; table_len = fits.table_len; table = tt; values = refl });
+        each = all_push (IsWritableSuffix s.sol.n_var s.sol.n_con) s.sol.suffixes x old.each
+            (record {
+              kind = fits.kind;
+              name = (and_parts _ _ is).1;
+              name_len = fits.name_len;
+              table_len = fits.table_len;
+              table = tt;
+              values = refl;
+            });
         begun = omega (arith, old.begun, length_push s.sol.suffixes x);
         begun_room = old.begun_room;
         tables = omega (arith, old.tables, sum_by_push (λ (y : SolSuffix). length y.table) s.sol.suffixes x);
@@ -268,7 +314,9 @@ kept_table s tables values line text h =
 
 -- ---- a value
 
-pub values_push : (limit : ℕ) (w : Bool) (before xs : List (ℕ × Dec)) (t : ℕ × Dec) → are_values limit w before xs ≡ true → nat_lt t.0 limit ≡ true → has_index (before ++ xs) t.0 ≡ false → (not w || is_whole t.1) ≡ true → are_values limit w before (xs ++ t ∷ []) ≡ true
+pub values_push : (limit : ℕ) (w : Bool) (before xs : List (ℕ × Dec)) (t : ℕ × Dec)
+    → are_values limit w before xs ≡ true → nat_lt t.0 limit ≡ true → has_index (before ++ xs) t.0 ≡ false
+    → (not w || is_whole t.1) ≡ true → are_values limit w before (xs ++ t ∷ []) ≡ true
 unfolding are_values
 values_push limit w before [] t all below fresh whole =
     let new : has_index before t.0 ≡ false = ap (λ l. has_index l t.0) (sym (append-nil before)) ∙ fresh in
@@ -281,13 +329,25 @@ values_push limit w before (x ∷ xs) t all below fresh whole =
 last_next : {A : Type 0} (x y : A) (xs : List A) → last_of (x ∷ y ∷ xs) ≡ last_of (y ∷ xs)
 last_next x y xs = let n : length (x ∷ y ∷ xs) - 1 ≡ suc (length (y ∷ xs) - 1) = omega arith in rw n refl
 
-each_value : (v n : ℕ) (t : ℕ × Dec) (xs : List SolSuffix) → AllByRecursion (IsWritableSuffix v n) xs → nat_lt t.0 (object_limit v n 256 (last_kind xs)) ≡ true → has_index (last_values xs) t.0 ≡ false → (not (wants_whole (last_kind xs)) || is_whole t.1) ≡ true
+each_value : (v n : ℕ) (t : ℕ × Dec) (xs : List SolSuffix) → AllByRecursion (IsWritableSuffix v n) xs
+    → nat_lt t.0 (object_limit v n 256 (last_kind xs)) ≡ true → has_index (last_values xs) t.0 ≡ false
+    → (not (wants_whole (last_kind xs)) || is_whole t.1) ≡ true
     → AllByRecursion (IsWritableSuffix v n) (change_last (with_values (t ∷ [])) xs)
 unfolding change_last
 each_value v n t [] all below fresh whole = tt
 each_value v n t (x ∷ []) all below fresh whole =
-    let w = all.0 in
-    (record { kind = w.kind; name = w.name; name_len = w.name_len; table_len = w.table_len; table = w.table; values = values_push (object_limit v n 256 x.kind) (wants_whole x.kind) [] x.values t w.values below fresh whole }, tt)
+    let w = all.0 in (
+      record {
+        kind = w.kind;
+        name = w.name;
+        name_len = w.name_len;
+        table_len = w.table_len;
+        table = w.table;
+        values =
+            values_push (object_limit v n 256 x.kind) (wants_whole x.kind) [] x.values t w.values below fresh whole;
+      },
+      tt,
+    )
 each_value v n t (x ∷ y ∷ xs) all below fresh whole =
     let kind : last_kind (x ∷ y ∷ xs) ≡ last_kind (y ∷ xs) = ap (λ o. option_map_or (λ s. s.kind) o 0) (last_next x y xs) in
     let values : last_values (x ∷ y ∷ xs) ≡ last_values (y ∷ xs) = ap (λ o. option_map_or (λ s. s.values) o []) (last_next x y xs) in
@@ -322,7 +382,13 @@ kept_value s left words h f =
     let g = with_values (t ∷ []) in
     let old = h.rest.1 in
     let next : Progress = record s { awaited = rest_awaits 0 (left - 1); sol = record s.sol { suffixes = change_last g s.sol.suffixes }; value_count = s.value_count + 1 } in
-    subst (λ o. Keeps (record s { awaited = rest_awaits 0 (left - 1); sol = record s.sol { suffixes = change_last (with_values (listed o)) s.sol.suffixes }; value_count = s.value_count + length (listed o) })) (sym (pair_there words index.value number.value index.is number.is))
+    subst (λ o. Keeps (record s {
+      awaited = rest_awaits 0 (left - 1);
+      sol =
+          record s.sol { suffixes = change_last (with_values (listed o)) s.sol.suffixes };
+      value_count =
+          s.value_count + length (listed o);
+    })) (sym (pair_there words index.value number.value index.is number.is))
     (await_rest next 0 (left - 1) h.said h.options h.n_con h.n_var h.objno (
       h.rest.0,
       record {

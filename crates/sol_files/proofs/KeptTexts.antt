@@ -2,15 +2,15 @@
 use Rattle.std.proofs.Common.{◌≡◌, ◌∙◌, ℕ, Bool, true, false, cond, List, [], ◌∷◌, ◌++◌, length, None, refl, sym, ap, subst, arith, ◌==◌}
 use Rattle.std.proofs.lemmas.Bool.{not-false}
 use Rattle.std.specs.List.{AllByRecursion}
-use Rattle.texts.specs.Cut.{IsTextLine}
-use Rattle.texts.specs.Judged.{first_reason}
-use Rattle.texts.specs.Reading.{lines_of, last_of}
-use Rattle.texts.specs.Words.{row_of}
-use Rattle.texts.proofs.AllLemmas.{all_here}
-use Rattle.texts.proofs.FirstReasons.{none_each}
-use Rattle.texts.proofs.JudgedLemmas.{clean_keeps}
-use Rattle.texts.proofs.LineLemmas.{lines_of-lines}
-use Rattle.texts.proofs.ReadingLemmas.{text_ends}
+use Rattle.text_base.specs.Cut.{IsTextLine}
+use Rattle.text_base.specs.Judged.{first_reason}
+use Rattle.text_base.specs.Reading.{lines_of, last_of}
+use Rattle.text_base.specs.Words.{row_of}
+use Rattle.text_base.proofs.AllLemmas.{all_here}
+use Rattle.text_base.proofs.FirstReasons.{none_each}
+use Rattle.text_base.proofs.JudgedLemmas.{clean_keeps}
+use Rattle.text_base.proofs.LineLemmas.{lines_of-lines}
+use Rattle.text_base.proofs.ReadingLemmas.{text_ends}
 use Rattle.sol_files.specs.declared.awaited.Awaited.{Awaited}
 use Rattle.sol_files.specs.declared.awaited.Awaited.TheVariants.{Message, OptionCount, Options, Constraints, DualCount, Variables, PrimalCount, Duals, Primals, Tail, Name, Table, Values}
 use Rattle.sol_files.specs.Sol.{Sol}

@@ -11,7 +11,7 @@ use Rattle.sol_files.specs.Sol.{Sol}
 use Rattle.sol_files.specs.Parts.{change_last, last_of}
 use Rattle.sol_files.specs.Built.{AreGiven, with_suffix, with_table_line, with_value}
 use Rattle.sol_files.specs.Tests.{has_index, index_limit, last_kind, last_values}
-use Rattle.shared_parts.specs.SuffixKinds.{object_limit}
+use Rattle.nl_model.specs.SuffixKinds.{object_limit}
 use Rattle.sol_files.specs.InsideHeld.{AreMarked, AwaitsSuffix}
 use Rattle.sol_files.proofs.LastLemmas.{Ends, ends_with, change_last-end, last_of-end, length_changed}
 
@@ -32,12 +32,18 @@ part_by g d f same (Some x) = same x
 
 -- ---- a table line more
 
-pub table_line_kept : (s t : Sol) (m : List Bool) (left : ℕ) (line : List ℕ) → s ≡ record t { suffixes = change_last (with_table_line line) t.suffixes } → AwaitsSuffix t m left → AreGiven s × ((n : ℕ) → 0 < n → AwaitsSuffix s m n)
+pub table_line_kept : (s t : Sol) (m : List Bool) (left : ℕ) (line : List ℕ)
+    → s ≡ record t { suffixes = change_last (with_table_line line) t.suffixes } → AwaitsSuffix t m left
+    → AreGiven s × ((n : ℕ) → 0 < n → AwaitsSuffix s m n)
 table_line_kept s t m left line e h =
     let given : AreGiven s = rw e (record { duals = h.given.duals; primals = h.given.primals }) in
     let last = last_of-changed (with_table_line line) t.suffixes h.marked.some in
-    let kind : last_kind (change_last (with_table_line line) t.suffixes) ≡ last_kind t.suffixes = ap (λ o. option_map_or (λ x. x.kind) o 0) last ∙ part_by (λ s. s.kind) 0 (with_table_line line) (λ x. refl) (last_of t.suffixes) in
-    let values : last_values (change_last (with_table_line line) t.suffixes) ≡ last_values t.suffixes = ap (λ o. option_map_or (λ x. x.values) o []) last ∙ part_by (λ s. s.values) [] (with_table_line line) (λ x. refl) (last_of t.suffixes) in
+    let kind : last_kind (change_last (with_table_line line) t.suffixes) ≡ last_kind t.suffixes =
+    ap (λ o. option_map_or (λ x. x.kind) o 0) last ∙ part_by (λ s. s.kind) 0 (with_table_line line) (λ x. refl)
+    (last_of t.suffixes) in
+    let values : last_values (change_last (with_table_line line) t.suffixes) ≡ last_values t.suffixes =
+    ap (λ o. option_map_or (λ x. x.values) o []) last ∙ part_by (λ s. s.values) [] (with_table_line line) (λ x. refl)
+    (last_of t.suffixes) in
     let limit : index_limit s ≡ index_limit t = ap index_limit e ∙ ap (object_limit t.n_var t.n_con 256) kind in
     let same : last_values s.suffixes ≡ last_values t.suffixes = ap (λ (x : Sol). last_values x.suffixes) e ∙ values in
     let some : length s.suffixes ≡ length t.suffixes = ap (λ (x : Sol). length x.suffixes) e ∙ length_changed (with_table_line line) t.suffixes in
@@ -53,7 +59,9 @@ or_false : (b : Bool) → (b || false) ≡ b
 or_false true = refl
 or_false false = refl
 
-marked_more : (m : List Bool) (values : List (ℕ × Dec)) (t : ℕ × Dec) (limit : ℕ) → t.0 < length m → ((i : ℕ) → i < limit → get_or m i false ≡ has_index values i) → (i : ℕ) → i < limit → get_or (set m t.0 true) i false ≡ has_index (values ++ t ∷ []) i
+marked_more : (m : List Bool) (values : List (ℕ × Dec)) (t : ℕ × Dec) (limit : ℕ) → t.0 < length m
+    → ((i : ℕ) → i < limit → get_or m i false ≡ has_index values i) → (i : ℕ) → i < limit
+    → get_or (set m t.0 true) i false ≡ has_index (values ++ t ∷ []) i
 marked_more m values t limit within each i lt = elim (cases_eq i t.0) [
   | inl same ↦ rw (same, index_more values t t.0, eq-eqb t.0 t.0 refl) (get_or-set_same m t.0 true false within ∙ sym (or_right (has_index values t.0) true refl))
   | inr other ↦ rw (index_more values t i, ne_eqb t.0 i (λ e. other (sym e))) (get_or-set_other m t.0 i true false other ∙ each i lt ∙ sym (or_false (has_index values i)))
@@ -66,12 +74,18 @@ values_more_by pair (Some x) h = refl
 last_is : {A : Type 0} (xs : List A) → 0 < length xs → IsSome (last_of xs)
 last_is xs lt = let e = ends_of xs lt in subst IsSome (sym (ap last_of e.whole ∙ last_of-end e.front e.end)) refl
 
-pub value_kept : (s t : Sol) (m m' : List Bool) (left : ℕ) (pair : ℕ × Dec) → s ≡ record t { suffixes = change_last (with_value pair) t.suffixes } → m' ≡ slice_set m pair.0 true → pair.0 < index_limit t → AwaitsSuffix t m left → AreGiven s × ((n : ℕ) → 0 < n → AwaitsSuffix s m' n)
+pub value_kept : (s t : Sol) (m m' : List Bool) (left : ℕ) (pair : ℕ × Dec)
+    → s ≡ record t { suffixes = change_last (with_value pair) t.suffixes } → m' ≡ slice_set m pair.0 true
+    → pair.0 < index_limit t → AwaitsSuffix t m left → AreGiven s × ((n : ℕ) → 0 < n → AwaitsSuffix s m' n)
 value_kept s t m m' left pair e f below h =
     let given : AreGiven s = rw e (record { duals = h.given.duals; primals = h.given.primals }) in
     let last = last_of-changed (with_value pair) t.suffixes h.marked.some in
-    let kind : last_kind (change_last (with_value pair) t.suffixes) ≡ last_kind t.suffixes = ap (λ o. option_map_or (λ x. x.kind) o 0) last ∙ part_by (λ s. s.kind) 0 (with_value pair) (λ x. refl) (last_of t.suffixes) in
-    let values : last_values (change_last (with_value pair) t.suffixes) ≡ last_values t.suffixes ++ pair ∷ [] = ap (λ o. option_map_or (λ x. x.values) o []) last ∙ values_more_by pair (last_of t.suffixes) (last_is t.suffixes h.marked.some) in
+    let kind : last_kind (change_last (with_value pair) t.suffixes) ≡ last_kind t.suffixes =
+    ap (λ o. option_map_or (λ x. x.kind) o 0) last ∙ part_by (λ s. s.kind) 0 (with_value pair) (λ x. refl)
+    (last_of t.suffixes) in
+    let values : last_values (change_last (with_value pair) t.suffixes) ≡ last_values t.suffixes ++ pair ∷ [] =
+    ap (λ o. option_map_or (λ x. x.values) o []) last ∙ values_more_by pair (last_of t.suffixes)
+    (last_is t.suffixes h.marked.some) in
     let limit : index_limit s ≡ index_limit t = ap index_limit e ∙ ap (object_limit t.n_var t.n_con 256) kind in
     let same : last_values s.suffixes ≡ last_values t.suffixes ++ pair ∷ [] = ap (λ (x : Sol). last_values x.suffixes) e ∙ values in
     let some : length s.suffixes ≡ length t.suffixes = ap (λ (x : Sol). length x.suffixes) e ∙ length_changed (with_value pair) t.suffixes in
@@ -85,7 +99,9 @@ value_kept s t m m' left pair e f below h =
 
 -- ---- a suffix more
 
-pub suffix_kept : (s t : Sol) (m : List Bool) (x : SolSuffix) (limit v n : ℕ) → s ≡ with_suffix t x → AreGiven t → x.values ≡ [] → limit ≡ object_limit v n 256 x.kind → v ≡ t.n_var → n ≡ t.n_con → limit ≤ length m → ((i : ℕ) → get_or m i false ≡ false) → AreGiven s × ((n : ℕ) → 0 < n → AwaitsSuffix s m n)
+pub suffix_kept : (s t : Sol) (m : List Bool) (x : SolSuffix) (limit v n : ℕ) → s ≡ with_suffix t x → AreGiven t
+    → x.values ≡ [] → limit ≡ object_limit v n 256 x.kind → v ≡ t.n_var → n ≡ t.n_con → limit ≤ length m
+    → ((i : ℕ) → get_or m i false ≡ false) → AreGiven s × ((n : ℕ) → 0 < n → AwaitsSuffix s m n)
 suffix_kept s t m x limit v n e h empty is var con room none =
     let given : AreGiven s = rw e (record { duals = h.duals; primals = h.primals }) in
     let last = last_of-end t.suffixes x in

@@ -1,5 +1,7 @@
 -- The written lines of options, sizes and values are read back.
-use Rattle.std.proofs.Common.{◌≡◌, ℕ, suc, ◌+◌, ◌-◌, ◌<◌, ◌≤◌, ◌^◌, ℤ, pos, Bool, true, false, ◌&&◌, ◌||◌, List, [], ◌∷◌, ◌++◌, length, map, Option, Some, None, inl, inr, refl, sym, ap, subst, arith, ◌==◌, nat_lt}
+use Rattle.std.proofs.Common.{◌≡◌, ℕ, suc, ◌+◌, ◌-◌, ◌<◌, ◌≤◌, ◌^◌, ℤ, pos, Bool, true, false, ◌&&◌, ◌||◌, List, []}
+use Rattle.std.proofs.Common.{◌∷◌, ◌++◌, length, map, Option, Some, None, inl, inr, refl, sym, ap, subst, arith, ◌==◌}
+use Rattle.std.proofs.Common.{nat_lt}
 use Rattle.std.specs.Prelude.{codes, IfSome}
 use Rattle.std.specs.List.{AllByRecursion}
 use Rattle.std.specs.Ordering.{int_eq}
@@ -9,7 +11,7 @@ use Rattle.std.proofs.lemmas.List.{append-nil, append_assoc}
 use Rattle.exact_numbers.specs.declared.dec.Dec.{Dec}
 use Rattle.exact_numbers.specs.Numbers.{has_31_bits, are_digits, whole_of}
 use Rattle.exact_numbers.proofs.NumberLemmas.{signed_of-signed_decimal}
-use Rattle.shared_parts.specs.Options.{has_second_three}
+use Rattle.nl_model.specs.Options.{has_second_three}
 use Rattle.sol_files.specs.declared.awaited.Awaited.TheVariants.{OptionCount, Options, Constraints, DualCount, Variables, PrimalCount, Duals, Primals, Tail}
 use Rattle.sol_files.specs.Sol.{Sol}
 use Rattle.sol_files.specs.Built.{IsEmptyOrFull}
@@ -22,7 +24,7 @@ use Rattle.written_texts.proofs.NumbersRead.{whole_of-decimal, are_digits-decima
 use Rattle.sol_files.proofs.Reached.{IsReached, AreWords, also, at, reached_row}
 use Rattle.sol_files.proofs.StandingLemmas.{is_plain}
 use Rattle.sol_files.specs.Progress.{Progress, kind_of, seen}
-use Rattle.texts.specs.Judged.{first_reason}
+use Rattle.text_base.specs.Judged.{first_reason}
 
 pub one_word : (word : List ℕ) → IsShortWord word → AreWords (word ∷ [])
 one_word word w = record { some = omega arith; few = omega arith; each = (w, tt) }
@@ -57,7 +59,9 @@ options_reached lines s (z ∷ rest) all second h =
     let less : suc (length rest) - 1 ≡ length rest = omega arith in
     let next : Sol = record s { options = s.options ++ z ∷ [] } in
     let here = also lines _ (at (Options (suc (length rest))) s 0 0 0 0 0) (ap (λ a. at a s 0 0 0 0 0) (options_some (length rest))) h in
-    let one = reached_row lines (at (Options (suc (length rest))) s 0 0 0 0 0) (at (options_await (length rest)) next 0 0 0 0 0) (signed_decimal z ∷ []) here refl (one_word (signed_decimal z) (word-signed z all.0))
+    let one = reached_row lines (at (Options (suc (length rest))) s 0 0 0 0 0)
+    (at (options_await (length rest)) next 0 0 0 0 0) (signed_decimal z ∷ []) here refl
+    (one_word (signed_decimal z) (word-signed z all.0))
     (rw (read, second_fine s.options z rest second) refl)
     (rw (read, less) refl) in
     let same = append_assoc s.options (z ∷ []) rest in
@@ -77,28 +81,42 @@ given_is full n (inr e) = by (n == 0)
 
 -- a row of one number
 number_reached : (lines : List (List ℕ)) (s t : Progress) (n : ℕ) → n ≤ 2 ^ 20 → IsReached lines s → is_plain s.awaited ≡ true
-    → (are_digits (decimal n) ≡ true → whole_of (decimal n) ≡ Some n → nat_lt n (2 ^ 20 + 1) ≡ true → (first_reason (row_tests (kind_of s.awaited) (seen s) (decimal n ∷ [])) ≡ None) × (after_row s.awaited s (decimal n ∷ []) ≡ t))
+    → (are_digits (decimal n) ≡ true → whole_of (decimal n) ≡ Some n → nat_lt n (2 ^ 20 + 1) ≡ true
+    → (first_reason (row_tests (kind_of s.awaited) (seen s) (decimal n ∷ [])) ≡ None)
+    × (after_row s.awaited s (decimal n ∷ []) ≡ t))
     → IsReached (lines ++ decimal n ∷ []) t
 number_reached lines s t n le h plain given =
     let small : n < 2 ^ 31 = omega arith in
     let fine = given (are_digits-decimal n small) (whole_of-decimal n small) (lt-ltb n (2 ^ 20 + 1) (omega arith)) in
     reached_row lines s t (decimal n ∷ []) h plain (one_word (decimal n) (word-decimal n (omega arith))) fine.0 fine.1
 
-pub con_reached : (lines : List (List ℕ)) (s : Sol) (n : ℕ) → n ≤ 2 ^ 20 → IsReached lines (at Constraints s 0 0 0 0 0) → IsReached (lines ++ decimal n ∷ []) (at DualCount (record s { n_con = n }) 0 0 0 0 0)
+pub con_reached : (lines : List (List ℕ)) (s : Sol) (n : ℕ) → n ≤ 2 ^ 20 → IsReached lines (at Constraints s 0 0 0 0 0)
+    → IsReached (lines ++ decimal n ∷ []) (at DualCount (record s { n_con = n }) 0 0 0 0 0)
 unfolding row_tests after_row
-con_reached lines s n le h = number_reached lines (at Constraints s 0 0 0 0 0) (at DualCount (record s { n_con = n }) 0 0 0 0 0) n le h refl (λ digits whole below. (rw (digits, whole, below) refl, rw whole refl))
+con_reached lines s n le h = number_reached lines (at Constraints s 0 0 0 0 0)
+    (at DualCount (record s { n_con = n }) 0 0 0 0 0) n le h refl
+    (λ digits whole below. (rw (digits, whole, below) refl, rw whole refl))
 
-pub dual_count_reached : (lines : List (List ℕ)) (s : Sol) (n : ℕ) → n ≤ 2 ^ 20 → IsEmptyOrFull s.n_con n → IsReached lines (at DualCount s 0 0 0 0 0) → IsReached (lines ++ decimal n ∷ []) (at Variables s n 0 0 0 0)
+pub dual_count_reached : (lines : List (List ℕ)) (s : Sol) (n : ℕ) → n ≤ 2 ^ 20 → IsEmptyOrFull s.n_con n
+    → IsReached lines (at DualCount s 0 0 0 0 0) → IsReached (lines ++ decimal n ∷ []) (at Variables s n 0 0 0 0)
 unfolding row_tests after_row
-dual_count_reached lines s n le given h = number_reached lines (at DualCount s 0 0 0 0 0) (at Variables s n 0 0 0 0) n le h refl (λ digits whole below. (rw (digits, whole, below, given_is s.n_con n given) refl, rw whole refl))
+dual_count_reached lines s n le given h = number_reached lines (at DualCount s 0 0 0 0 0) (at Variables s n 0 0 0 0) n
+    le h refl (λ digits whole below. (rw (digits, whole, below, given_is s.n_con n given) refl, rw whole refl))
 
-pub var_reached : (lines : List (List ℕ)) (s : Sol) (d n : ℕ) → n ≤ 2 ^ 20 → IsReached lines (at Variables s d 0 0 0 0) → IsReached (lines ++ decimal n ∷ []) (at PrimalCount (record s { n_var = n }) d 0 0 0 0)
+pub var_reached : (lines : List (List ℕ)) (s : Sol) (d n : ℕ) → n ≤ 2 ^ 20 → IsReached lines (at Variables s d 0 0 0 0)
+    → IsReached (lines ++ decimal n ∷ []) (at PrimalCount (record s { n_var = n }) d 0 0 0 0)
 unfolding row_tests after_row
-var_reached lines s d n le h = number_reached lines (at Variables s d 0 0 0 0) (at PrimalCount (record s { n_var = n }) d 0 0 0 0) n le h refl (λ digits whole below. (rw (digits, whole, below) refl, rw whole refl))
+var_reached lines s d n le h = number_reached lines (at Variables s d 0 0 0 0)
+    (at PrimalCount (record s { n_var = n }) d 0 0 0 0) n le h refl
+    (λ digits whole below. (rw (digits, whole, below) refl, rw whole refl))
 
-pub primal_count_reached : (lines : List (List ℕ)) (s : Sol) (d n : ℕ) → n ≤ 2 ^ 20 → IsEmptyOrFull s.n_var n → IsReached lines (at PrimalCount s d 0 0 0 0) → IsReached (lines ++ decimal n ∷ []) (at (values_await d n) s d n 0 0 0)
+pub primal_count_reached : (lines : List (List ℕ)) (s : Sol) (d n : ℕ) → n ≤ 2 ^ 20 → IsEmptyOrFull s.n_var n
+    → IsReached lines (at PrimalCount s d 0 0 0 0) → IsReached (lines ++ decimal n ∷ [])
+    (at (values_await d n) s d n 0 0 0)
 unfolding row_tests after_row
-primal_count_reached lines s d n le given h = number_reached lines (at PrimalCount s d 0 0 0 0) (at (values_await d n) s d n 0 0 0) n le h refl (λ digits whole below. (rw (digits, whole, below, given_is s.n_var n given) refl, rw whole refl))
+primal_count_reached lines s d n le given h = number_reached lines (at PrimalCount s d 0 0 0 0)
+    (at (values_await d n) s d n 0 0 0) n le h refl (λ digits whole below.
+    (rw (digits, whole, below, given_is s.n_var n given) refl, rw whole refl))
 
 -- ---- values
 
@@ -108,7 +126,9 @@ duals_some n p = rw (lt-ltb 0 (suc n) (omega arith)) refl
 primals_some : (n : ℕ) → values_await 0 (suc n) ≡ Primals (suc n)
 primals_some n = rw (lt-ltb 0 (suc n) (omega arith)) refl
 
-pub duals_reached : (lines : List (List ℕ)) (s : Sol) (d p : ℕ) (rest : List Dec) → IsReached lines (at (values_await (length rest) p) s d p 0 0 0) → IsReached (lines ++ map text_of rest) (at (values_await 0 p) (record s { duals = s.duals ++ rest }) d p 0 0 0)
+pub duals_reached : (lines : List (List ℕ)) (s : Sol) (d p : ℕ) (rest : List Dec)
+    → IsReached lines (at (values_await (length rest) p) s d p 0 0 0)
+    → IsReached (lines ++ map text_of rest) (at (values_await 0 p) (record s { duals = s.duals ++ rest }) d p 0 0 0)
 unfolding row_tests after_row
 duals_reached lines s d p [] h =
     subst (λ ls. IsReached ls (at (values_await 0 p) (record s { duals = s.duals ++ [] }) d p 0 0 0)) (sym (append-nil lines))
@@ -123,7 +143,9 @@ duals_reached lines s d p (x ∷ rest) h =
     subst (λ ls. IsReached ls (at (values_await 0 p) (record s { duals = s.duals ++ x ∷ rest }) d p 0 0 0)) (append_assoc lines (text_of x ∷ []) (map text_of rest))
     (also _ _ _ (ap (λ xs. at (values_await 0 p) (record s { duals = xs }) d p 0 0 0) (append_assoc s.duals (x ∷ []) rest)) (duals_reached (lines ++ text_of x ∷ []) next d p rest one))
 
-pub primals_reached : (lines : List (List ℕ)) (s : Sol) (d p : ℕ) (rest : List Dec) → IsReached lines (at (values_await 0 (length rest)) s d p 0 0 0) → IsReached (lines ++ map text_of rest) (at Tail (record s { primals = s.primals ++ rest }) d p 0 0 0)
+pub primals_reached : (lines : List (List ℕ)) (s : Sol) (d p : ℕ) (rest : List Dec)
+    → IsReached lines (at (values_await 0 (length rest)) s d p 0 0 0)
+    → IsReached (lines ++ map text_of rest) (at Tail (record s { primals = s.primals ++ rest }) d p 0 0 0)
 unfolding row_tests after_row
 primals_reached lines s d p [] h =
     subst (λ ls. IsReached ls (at Tail (record s { primals = s.primals ++ [] }) d p 0 0 0)) (sym (append-nil lines))
@@ -140,7 +162,9 @@ primals_reached lines s d p (x ∷ rest) h =
 
 -- ---- the number of the objective
 
-pub objno_reached : (lines : List (List ℕ)) (s : Sol) (d p : ℕ) (objno : Option (ℤ × ℤ)) → s.objno ≡ None → IfSome objno IsSignedPair → IsReached lines (at Tail s d p 0 0 0) → IsReached (lines ++ objno_lines objno) (at Tail (record s { objno = objno }) d p 0 0 0)
+pub objno_reached : (lines : List (List ℕ)) (s : Sol) (d p : ℕ) (objno : Option (ℤ × ℤ)) → s.objno ≡ None
+    → IfSome objno IsSignedPair → IsReached lines (at Tail s d p 0 0 0)
+    → IsReached (lines ++ objno_lines objno) (at Tail (record s { objno = objno }) d p 0 0 0)
 unfolding row_tests tail_tests after_row
 objno_reached lines s d p None none fits h =
     subst (λ ls. IsReached ls (at Tail (record s { objno = None }) d p 0 0 0)) (sym (append-nil lines))
@@ -149,6 +173,13 @@ objno_reached lines s d p (Some t) none fits h =
     let first = signed_of-signed_decimal t.0 fits.0 in
     let second = signed_of-signed_decimal t.1 fits.1 in
     reached_row lines (at Tail s d p 0 0 0) (at Tail (record s { objno = Some t }) d p 0 0 0) (codes "objno" ∷ signed_decimal t.0 ∷ signed_decimal t.1 ∷ []) h refl
-    (record { some = omega arith; few = omega arith; each = (record { is = record { some = omega arith; bytes = refl }; short = omega arith }, (word-signed t.0 fits.0, (word-signed t.1 fits.1, tt))) })
+    (record {
+      some = omega arith;
+      few = omega arith;
+      each = (
+        record { is = record { some = omega arith; bytes = refl }; short = omega arith },
+        (word-signed t.0 fits.0, (word-signed t.1 fits.1, tt)),
+      );
+    })
     (rw (none, first, second) refl)
     (rw (none, first, second) refl)

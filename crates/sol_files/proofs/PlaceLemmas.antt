@@ -1,5 +1,6 @@
 -- How many lines of its kind are left where a line has this place, and that the plan has its kind.
-use Rattle.std.proofs.Common.{◌≡◌, ◌∙◌, ℕ, suc, ◌+◌, ◌-◌, ◌<◌, ◌≤◌, Bool, true, false, List, ◌∷◌, ◌++◌, length, get_or, replicate, Option, Some, None, refl, ap, arith, nat_lt, nat_le, ◌==◌, if◌then◌else◌}
+use Rattle.std.proofs.Common.{◌≡◌, ◌∙◌, ℕ, suc, ◌+◌, ◌-◌, ◌<◌, ◌≤◌, Bool, true, false, List, ◌∷◌, ◌++◌, length, get_or}
+use Rattle.std.proofs.Common.{replicate, Option, Some, None, refl, ap, arith, nat_lt, nat_le, ◌==◌, if◌then◌else◌}
 use Rattle.std.specs.Option.{option_map_or}
 use Rattle.std.proofs.Math.Seq.{get_or-append_right}
 use Rattle.std.proofs.lemmas.Bool.{ltb-true, ltb-false, leb-true, leb-false, eqb-true, eqb-false, ne_eqb}
@@ -9,7 +10,10 @@ use Rattle.std.proofs.lemmas.List.{length-append, length-replicate, get_or-repli
 use Rattle.sol_files.specs.declared.awaited.Awaited.{Awaited}
 use Rattle.sol_files.specs.declared.awaited.Awaited.TheVariants.{OptionCount, Options, Constraints, DualCount, Variables, PrimalCount, Duals, Primals, Tail, Name, Table, Values}
 use Rattle.sol_files.specs.declared.awaited.SuffixHead.{SuffixHead}
-use Rattle.sol_files.specs.Plan.{LineKind, OptionCount as OptionCountKind, OptionRow, ConstraintCount, DualCount as DualCountKind, VariableCount, PrimalCount as PrimalCountKind, DualRow, PrimalRow, NameLine, TableLine, ValueRow, Tail as TailKind, row_plan, suffix_plan, next_in}
+use Rattle.sol_files.specs.Plan.{LineKind, OptionCount as OptionCountKind, OptionRow, ConstraintCount}
+use Rattle.sol_files.specs.Plan.{DualCount as DualCountKind, VariableCount, PrimalCount as PrimalCountKind, DualRow}
+use Rattle.sol_files.specs.Plan.{PrimalRow, NameLine, TableLine, ValueRow, Tail as TailKind, row_plan, suffix_plan}
+use Rattle.sol_files.specs.Plan.{next_in}
 use Rattle.sol_files.specs.Rows.{Row}
 use Rattle.sol_files.specs.Parts.{Piece, Body, option_count, dual_count, primal_count, rows_await, piece_awaits, body_awaits, last_of}
 use Rattle.sol_files.specs.Progress.{kind_of}
@@ -47,7 +51,9 @@ pub data Place (k d p i : ℕ) : Awaited → Type 0 where
 pub place : (k d p i : ℕ) → Place k d p i (row_at k d p i)
 place k d p i = by (i == 0) refl (nat_le i k) refl (i == k + 1) refl (i == k + 2) refl (i == k + 3) refl (i == k + 4) refl (nat_lt i (k + 5 + d)) refl (nat_lt i (k + 5 + d + p)) refl
   where
-    by : (a : Bool) → (i == 0) ≡ a → (b : Bool) → nat_le i k ≡ b → (c : Bool) → (i == k + 1) ≡ c → (e : Bool) → (i == k + 2) ≡ e → (g : Bool) → (i == k + 3) ≡ g → (h : Bool) → (i == k + 4) ≡ h → (x : Bool) → nat_lt i (k + 5 + d) ≡ x → (y : Bool) → nat_lt i (k + 5 + d + p) ≡ y → Place k d p i (row_at k d p i)
+    by : (a : Bool) → (i == 0) ≡ a → (b : Bool) → nat_le i k ≡ b → (c : Bool) → (i == k + 1) ≡ c → (e : Bool)
+        → (i == k + 2) ≡ e → (g : Bool) → (i == k + 3) ≡ g → (h : Bool) → (i == k + 4) ≡ h → (x : Bool)
+        → nat_lt i (k + 5 + d) ≡ x → (y : Bool) → nat_lt i (k + 5 + d + p) ≡ y → Place k d p i (row_at k d p i)
     by true q b r c s e t g u h v x w y z = rw q (first (eqb-true i 0 q))
     by false q true r c s e t g u h v x w y z = rw (q, r) (option (let ne = eqb-false i 0 q in omega arith) (leb-true i k r))
     by false q false r true s e t g u h v x w y z = rw (q, r, s) (constraints (eqb-true i (k + 1) s))
@@ -66,7 +72,9 @@ place k d p i = by (i == 0) refl (nat_le i k) refl (i == k + 1) refl (i == k + 2
 
 -- the row after it
 
-pub after_counts : (k d p : ℕ) → (row_at k d p 1 ≡ options_await k) × (row_at k d p (k + 2) ≡ DualCount) × (row_at k d p (k + 3) ≡ Variables) × (row_at k d p (k + 4) ≡ PrimalCount) × (row_at k d p (k + 5) ≡ values_await d p)
+pub after_counts : (k d p : ℕ) → (row_at k d p 1 ≡ options_await k) × (row_at k d p (k + 2) ≡ DualCount)
+    × (row_at k d p (k + 3) ≡ Variables) × (row_at k d p (k + 4) ≡ PrimalCount)
+    × (row_at k d p (k + 5) ≡ values_await d p)
 after_counts k d p = (grind (arith, nat_tests), grind (arith, nat_tests), grind (arith, nat_tests), grind (arith, nat_tests), grind (arith, nat_tests))
 
 pub after_option_row : (k d p i : ℕ) → 0 < i → i ≤ k → row_at k d p (i + 1) ≡ options_await (((k + 1) - i) - 1)
@@ -98,7 +106,8 @@ pub data LinePlace (head : SuffixHead) (i : ℕ) : Awaited → Type 0 where
 pub line_place : (head : SuffixHead) (i : ℕ) → LinePlace head i (line_at head i)
 line_place head i = by (i == 0) refl (nat_lt 0 ((head.table_lines + 1) - i)) refl (nat_lt 0 (head.value_count - (i - (head.table_lines + 1)))) refl
   where
-    by : (a : Bool) → (i == 0) ≡ a → (b : Bool) → nat_lt 0 ((head.table_lines + 1) - i) ≡ b → (c : Bool) → nat_lt 0 (head.value_count - (i - (head.table_lines + 1))) ≡ c → LinePlace head i (line_at head i)
+    by : (a : Bool) → (i == 0) ≡ a → (b : Bool) → nat_lt 0 ((head.table_lines + 1) - i) ≡ b → (c : Bool)
+        → nat_lt 0 (head.value_count - (i - (head.table_lines + 1))) ≡ c → LinePlace head i (line_at head i)
     by true q b r c s = rw q (at_name (eqb-true i 0 q))
     by false q true r c s =
         let ne = eqb-false i 0 q in

@@ -3,10 +3,10 @@ use Rattle.std.proofs.Common.{◌≡◌, ◌∙◌, ℕ, ◌+◌, ◌<◌, ◌�
 use Rattle.std.specs.List.{AllByRecursion}
 use Rattle.std.proofs.lemmas.Bool.{ne_eqb, and_right}
 use Rattle.std.proofs.lemmas.List.{append-nil, append_assoc, length-append, length_push}
-use Rattle.texts.specs.Judged.{Open, End, IsClean, first_reason}
-use Rattle.texts.specs.Words.{row_of}
-use Rattle.texts.specs.Cut.{IsTextLine}
-use Rattle.texts.proofs.JudgedLemmas.{clean_none, clean_last, clean_more}
+use Rattle.text_base.specs.Judged.{Open, End, IsClean, first_reason}
+use Rattle.text_base.specs.Words.{row_of}
+use Rattle.text_base.specs.Cut.{IsTextLine}
+use Rattle.text_base.proofs.JudgedLemmas.{clean_none, clean_last, clean_more}
 use Rattle.sol_files.specs.declared.awaited.Awaited.{Awaited}
 use Rattle.sol_files.specs.declared.awaited.Awaited.TheVariants.{Message, OptionCount}
 use Rattle.std.specs.Prelude.{codes}
@@ -22,12 +22,12 @@ use Rattle.sol_files.specs.Saying.{sol_of}
 use Rattle.sol_files.specs.Built.{empty_sol}
 use Rattle.sol_files.specs.Written.{IsSaidLine}
 use Rattle.sol_files.specs.Steps.{after, after_at, after_row, after_row_line, held_lines, read}
-use Rattle.texts.specs.WordLines.{spaced}
+use Rattle.text_base.specs.WordLines.{spaced}
 use Rattle.sol_files.proofs.MessageLemmas.{held_back, without_blank_end-more}
 use Rattle.sol_files.proofs.StandingLemmas.{standing-read, read-more, read-none, is_plain, plain_after, spoken, spoken_more}
 use Rattle.sol_files.proofs.ShortWords.{IsShortWord, are_words, row-line}
 use Rattle.written_texts.proofs.WordLemmas.{row-spaced}
-use Rattle.texts.proofs.AllLemmas.{all_push}
+use Rattle.text_base.proofs.AllLemmas.{all_push}
 
 -- the lines have no fault, mean this, and each of them is a line of a text
 pub record IsReached (lines : List (List ℕ)) (s : Progress) : Type 0 where
@@ -38,7 +38,8 @@ pub record IsReached (lines : List (List ℕ)) (s : Progress) : Type 0 where
 pub reached_none : IsReached [] start
 reached_none = record { clean = clean_none sol_rules; here = read-none; ones = tt }
 
-pub reached_more : (lines : List (List ℕ)) (s t : Progress) (line : List ℕ) → IsReached lines s → IsTextLine line → first_reason (line_tests (seen s) line) ≡ None → after s line ≡ t → IsReached (lines ++ line ∷ []) t
+pub reached_more : (lines : List (List ℕ)) (s t : Progress) (line : List ℕ) → IsReached lines s → IsTextLine line
+    → first_reason (line_tests (seen s) line) ≡ None → after s line ≡ t → IsReached (lines ++ line ∷ []) t
 reached_more lines s t line h one fine e =
     record {
       clean = clean_more sol_rules lines line h.clean (ap (λ (x : Standing). first_reason (line_tests x line)) (standing-read lines ∙ ap seen h.here) ∙ fine);
@@ -65,7 +66,9 @@ unfolding line_tests_at
 plain_tests Message s line e = cc
 plain_tests a s line e = cc
 
-pub reached_row : (lines : List (List ℕ)) (s t : Progress) (words : Row) → IsReached lines s → is_plain s.awaited ≡ true → AreWords words → first_reason (row_tests (kind_of s.awaited) (seen s) words) ≡ None → after_row s.awaited s words ≡ t
+pub reached_row : (lines : List (List ℕ)) (s t : Progress) (words : Row) → IsReached lines s → is_plain s.awaited ≡ true
+    → AreWords words → first_reason (row_tests (kind_of s.awaited) (seen s) words) ≡ None
+    → after_row s.awaited s words ≡ t
     → IsReached (lines ++ spaced words ∷ []) t
 reached_row lines s t words h plain w fine e =
     let read = row-spaced words w.few (are_words words w.each) in
@@ -135,11 +138,15 @@ unfolding after_at spoken sol_of whole_of
 begun message = ap (λ (ls : List (List ℕ)). at OptionCount (only_message ls) 0 0 0 0 0) (without_blank_end-more message [])
 
 -- the message, an empty line and `Options`
-pub reached_options : (message : List (List ℕ)) → AllByRecursion IsSaidLine message → length message ≤ 65536 → IsReached (message ++ [] ∷ codes "Options" ∷ []) (at OptionCount (only_message message) 0 0 0 0 0)
+pub reached_options : (message : List (List ℕ)) → AllByRecursion IsSaidLine message → length message ≤ 65536
+    → IsReached (message ++ [] ∷ codes "Options" ∷ []) (at OptionCount (only_message message) 0 0 0 0 0)
 unfolding line_tests_at spoken
 reached_options message all room =
     let none : start ≡ spoken [] = no_words in
     let said = reached_message [] message (also [] _ _ none reached_none) all (omega arith) in
     let empty = reached_more message (spoken message) (spoken (message ++ [] ∷ [])) [] said (row-line [] (omega arith) tt) (empty_fine message room) (spoken_more message [] refl) in
     subst (λ ls. IsReached ls (at OptionCount (only_message message) 0 0 0 0 0)) (append_assoc message ([] ∷ []) (codes "Options" ∷ []))
-    (reached_more (message ++ [] ∷ []) (spoken (message ++ [] ∷ [])) (at OptionCount (only_message message) 0 0 0 0 0) (codes "Options") empty (row-line (codes "Options" ∷ []) (omega arith) (record { is = record { some = omega arith; bytes = refl }; short = omega arith }, tt)) (options_fine (message ++ [] ∷ [])) (begun message))
+    (reached_more (message ++ [] ∷ []) (spoken (message ++ [] ∷ [])) (at OptionCount (only_message message) 0 0 0 0 0)
+    (codes "Options") empty (row-line (codes "Options" ∷ []) (omega arith)
+    (record { is = record { some = omega arith; bytes = refl }; short = omega arith }, tt))
+    (options_fine (message ++ [] ∷ [])) (begun message))

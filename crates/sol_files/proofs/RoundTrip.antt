@@ -2,10 +2,10 @@
 use Rattle.std.proofs.Common.{◌≡◌, ◌∙◌, ℕ, ◌≤◌, ◌^◌, List, [], ◌∷◌, ◌++◌, length, map, None, inl, inr, refl, sym, ap, subst, arith, append_assoc}
 use Rattle.std.specs.Prelude.{codes, Result, Ok, Err, MatchResult}
 use Rattle.std.specs.Fmt.{decimal, signed_decimal}
-use Rattle.texts.specs.declared.stop.Stop.{Stop}
-use Rattle.texts.specs.declared.stop.Stop.TheVariants.{Fault, Memory}
-use Rattle.texts.specs.Judged.{first_reason}
-use Rattle.texts.proofs.ReadingLemmas.{written_lines}
+use Rattle.text_base.specs.declared.stop.Stop.{Stop}
+use Rattle.text_base.specs.declared.stop.Stop.TheVariants.{Fault, Memory}
+use Rattle.text_base.specs.Judged.{first_reason}
+use Rattle.text_base.proofs.ReadingLemmas.{written_lines}
 use Rattle.sol_files.specs.declared.fault.SolFault.{SolFault}
 use Rattle.sol_files.specs.Sol.{Sol}
 use Rattle.sol_files.specs.Built.{IsEmptyOrFull}

@@ -2,10 +2,10 @@
 use Rattle.std.proofs.Common.{◌≡◌, ℕ, ◌^◌, ◌<◌, ◌≤◌, true, List, [], ◌∷◌, length, ℤ, arith, lit<, lt_trans}
 use Rattle.std.specs.List.{AllByRecursion}
 use Rattle.std.specs.Fmt.{decimal, signed_decimal}
-use Rattle.texts.specs.Cut.{IsTextLine}
+use Rattle.text_base.specs.Cut.{IsTextLine}
 use Rattle.exact_numbers.specs.Numbers.{has_31_bits}
 use Rattle.exact_numbers.specs.declared.dec.Dec.{Dec}
-use Rattle.texts.specs.WordLines.{WordLine, spaced}
+use Rattle.text_base.specs.WordLines.{WordLine, spaced}
 use Rattle.exact_numbers.specs.Values.{text_of}
 use Rattle.written_texts.specs.Words.{IsWord}
 use Rattle.written_texts.proofs.Lengths.{decimal-length, signed_31-length, text-length}

@@ -7,14 +7,16 @@ use Rattle.std.proofs.lemmas.Bool.{ne_eqb, and_parts}
 use Rattle.std.proofs.lemmas.List.{length_push, nil_from_length, append-nil, append_assoc}
 use Rattle.std.proofs.lemmas.List.Folds.{list_any-append}
 use Rattle.std.proofs.lemmas.List.Sums.{fold_push, sum_by-cons}
-use Rattle.texts.specs.Words.{row_of, begins}
+use Rattle.text_base.specs.Words.{row_of, begins}
 use Rattle.exact_numbers.specs.Numbers.{whole_of}
 use Rattle.sol_files.specs.declared.awaited.Awaited.{Awaited}
 use Rattle.sol_files.specs.declared.awaited.Awaited.TheVariants.{Message, Tail, Name, Table, Values}
 use Rattle.sol_files.specs.declared.suffix.SolSuffix.{SolSuffix}
 use Rattle.sol_files.specs.Sol.{Sol}
 use Rattle.sol_files.specs.Rows.{Row}
-use Rattle.sol_files.specs.Parts.{Piece, Body, is_options, message_lines, ends_blank, without_blank_end, is_in_message, body_of, body_awaits, option_count, dual_count, primal_count, is_raw, is_tail, with_new_piece, to_last_piece, with_row_line, with_line, no_body}
+use Rattle.sol_files.specs.Parts.{Piece, Body, is_options, message_lines, ends_blank, without_blank_end, is_in_message}
+use Rattle.sol_files.specs.Parts.{body_of, body_awaits, option_count, dual_count, primal_count, is_raw, is_tail}
+use Rattle.sol_files.specs.Parts.{with_new_piece, to_last_piece, with_row_line, with_line, no_body}
 use Rattle.sol_files.specs.Saying.{suffix_of, sol_of}
 use Rattle.sol_files.specs.Plan.{LineKind}
 use Rattle.sol_files.specs.Standing.{standing}
@@ -72,11 +74,15 @@ plain_step : (message : List (List ℕ)) (b : Body) (line : List ℕ) (a : Await
 unfolding after_row
 plain_step message b line a plain row = by (length (row_of line) == 0) refl (is_tail (kind_of a) && begins (row_of line) (codes "suffix")) refl ∙ plain_after a (met message b) line plain
   where
-    by : (z : Bool) → (length (row_of line) == 0) ≡ z → (t : Bool) → (is_tail (kind_of a) && begins (row_of line) (codes "suffix")) ≡ t → met message (with_at (kind_of a) b line) ≡ after_row_line a (met message b) (row_of line)
+    by : (z : Bool) → (length (row_of line) == 0) ≡ z → (t : Bool)
+        → (is_tail (kind_of a) && begins (row_of line) (codes "suffix")) ≡ t
+        → met message (with_at (kind_of a) b line) ≡ after_row_line a (met message b) (row_of line)
     by true e t f = rw (plain_raw a plain, e) refl
     by false e true f =
         let parts = and_parts (is_tail (kind_of a)) (begins (row_of line) (codes "suffix")) f in
-        rw (plain_raw a plain, e, f) (piece_begun message b.rows b.pieces (row_of line) ∙ sym (tail_suffix (met message b) (row_of line) parts.1) ∙ ap (λ x. after_row x (met message b) (row_of line)) (sym (tail_is a parts.0)))
+        rw (plain_raw a plain, e, f) (piece_begun message b.rows b.pieces (row_of line)
+        ∙ sym (tail_suffix (met message b) (row_of line) parts.1)
+        ∙ ap (λ x. after_row x (met message b) (row_of line)) (sym (tail_is a parts.0)))
     by false e false f = rw (plain_raw a plain, e, f) (row (λ tail. rw tail at f))
 
 -- ---- without a suffix
@@ -87,7 +93,9 @@ rows_plain k d p i (Name head) h = elim h [ ]
 rows_plain k d p i (Table tables values) h = elim h [ ]
 rows_plain k d p i a h = refl
 
-step_of_rows : (message : List (List ℕ)) (rows : List Row) (line : List ℕ) → met message (with_line (record { rows = rows; pieces = [] }) line) ≡ after (met message (record { rows = rows; pieces = [] })) line
+step_of_rows : (message : List (List ℕ)) (rows : List Row) (line : List ℕ)
+    → met message (with_line (record { rows = rows; pieces = [] }) line)
+    ≡ after (met message (record { rows = rows; pieces = [] })) line
 unfolding met
 step_of_rows message rows line =
     let b : Body = record { rows = rows; pieces = [] } in
@@ -114,17 +122,25 @@ module _ (message : List (List ℕ)) (rows : List Row) (front : List Piece) (hea
   unfolding after_at
   step_named lines z = subst (λ ls. Steps message (body ls) line (Name (head_in head))) (sym (nil_from_length lines z)) (named message rows front head line)
 
-  step_tabled : (lines : List (List ℕ)) → 0 < length lines → length lines ≤ (head_in head).table_lines → Steps message (body lines) line (Table (((head_in head).table_lines + 1) - length lines) ((head_in head).value_count - (length lines - ((head_in head).table_lines + 1))))
+  step_tabled : (lines : List (List ℕ)) → 0 < length lines → length lines ≤ (head_in head).table_lines
+      → Steps message (body lines) line (Table (((head_in head).table_lines + 1) - length lines)
+      ((head_in head).value_count - (length lines - ((head_in head).table_lines + 1))))
   unfolding after_at
   step_tabled [] lt le = absurd (omega arith)
   step_tabled (text ∷ lines) lt le = tabled message rows front head line text lines le _ _ refl refl
 
-  valued_row : (lines : List (List ℕ)) → (head_in head).table_lines < length lines → length lines < (head_in head).table_lines + 1 + (head_in head).value_count → met message (with_row_line (body lines) line) ≡ after_row (Values ((head_in head).value_count - (length lines - ((head_in head).table_lines + 1)))) (met message (body lines)) (row_of line)
+  valued_row : (lines : List (List ℕ)) → (head_in head).table_lines < length lines
+      → length lines < (head_in head).table_lines + 1 + (head_in head).value_count
+      → met message (with_row_line (body lines) line) ≡ after_row
+      (Values ((head_in head).value_count - (length lines - ((head_in head).table_lines + 1)))) (met message (body lines))
+      (row_of line)
   unfolding after_row
   valued_row [] lt less = absurd (omega arith)
   valued_row (text ∷ lines) lt less = ap (met message) (to_last (text ∷ lines)) ∙ valued message rows front head line text lines lt less _ refl
 
-  over_row : (lines : List (List ℕ)) → (head_in head).table_lines + 1 + (head_in head).value_count ≤ length lines → begins (row_of line) (codes "suffix") ≡ false → met message (with_row_line (body lines) line) ≡ after_row Tail (met message (body lines)) (row_of line)
+  over_row : (lines : List (List ℕ)) → (head_in head).table_lines + 1 + (head_in head).value_count ≤ length lines
+      → begins (row_of line) (codes "suffix") ≡ false → met message (with_row_line (body lines) line)
+      ≡ after_row Tail (met message (body lines)) (row_of line)
   over_row [] le e = absurd (omega arith)
   over_row (text ∷ lines) le e = ap (met message) (to_last (text ∷ lines)) ∙ over message rows front head line text lines le ∙ sym (past_tail (text ∷ lines) e)
 
@@ -144,7 +160,9 @@ module _ (message : List (List ℕ)) (rows : List Row) (front : List Piece) (hea
 
 -- ---- any line of a body
 
-step_with : (message : List (List ℕ)) (rows : List Row) (pieces : List Piece) (line : List ℕ) → met message (with_line (record { rows = rows; pieces = pieces }) line) ≡ after (met message (record { rows = rows; pieces = pieces })) line
+step_with : (message : List (List ℕ)) (rows : List Row) (pieces : List Piece) (line : List ℕ)
+    → met message (with_line (record { rows = rows; pieces = pieces }) line)
+    ≡ after (met message (record { rows = rows; pieces = pieces })) line
 step_with message rows [] line = step_of_rows message rows line
 step_with message rows (p ∷ ps) line =
     let e = ends_with p ps in
@@ -192,8 +210,14 @@ options_more lines line = list_any-append is_options lines (line ∷ [])
 pub spoken_more : (said : List (List ℕ)) (line : List ℕ) → is_options line ≡ false → after (spoken said) line ≡ spoken (said ++ line ∷ [])
 unfolding after_at spoken sol_of
 spoken_more said line other =
-    let more : without_blank_end (said ++ line ∷ []) ≡ lines_with (without_blank_end said ++ held_lines (ends_blank said)) line = without_blank_end-more said line ∙ ap (λ ls. lines_with ls line) (sym (held_back said)) in
-    let becomes : after (spoken said) line ≡ record (spoken said) { is_held_back = length line == 0; sol = record (spoken said).sol { message = lines_with (without_blank_end said ++ held_lines (ends_blank said)) line } } = rw other refl in
+    let more : without_blank_end (said ++ line ∷ []) ≡ lines_with
+    (without_blank_end said ++ held_lines (ends_blank said)) line =
+    without_blank_end-more said line ∙ ap (λ ls. lines_with ls line) (sym (held_back said)) in
+    let becomes : after (spoken said) line ≡ record (spoken said) {
+      is_held_back = length line == 0;
+      sol = record (spoken said).sol
+          { message = lines_with (without_blank_end said ++ held_lines (ends_blank said)) line };
+    } = rw other refl in
     becomes ∙ sym (ap₂ (λ h m. record (spoken said) { is_held_back = h; sol = record (spoken said).sol { message = m } }) (ends_blank-more said line) more)
 
 -- a line of the message
@@ -219,7 +243,9 @@ body_line : (lines : List (List ℕ)) (line : List ℕ) → list_any is_options 
 unfolding body_of
 body_line lines line some =
     let still : list_any is_options (lines ++ line ∷ []) ≡ true = rw (options_more lines line, some) refl in
-    let more : body_of (lines ++ line ∷ []) ≡ with_line (body_of lines) line = ap (fold with_line no_body) (rw some at (after_more is_options lines line)) ∙ fold_push with_line no_body (after_first is_options lines) line in
+    let more : body_of (lines ++ line ∷ []) ≡ with_line (body_of lines) line =
+    ap (fold with_line no_body) (rw some at (after_more is_options lines line))
+    ∙ fold_push with_line no_body (after_first is_options lines) line in
     past_message (lines ++ line ∷ []) still ∙ ap₂ (λ ls b. met (without_blank_end ls) b) (rw (some, append-nil) at (before_more is_options lines line)) more
     ∙ body_step (without_blank_end (message_lines lines)) (body_of lines) line ∙ ap (λ (s : Progress). after s line) (sym (past_message lines some))
 
@@ -250,7 +276,8 @@ value_sum : (pieces : List Piece) → sum_by (λ s. length s.values) (filter_map
 value_sum [] = refl
 value_sum (p ∷ ps) = by (suffix_of p) ∙ ap (λ n. value_count_in p + n) (value_sum ps) ∙ sym (sum_by-cons value_count_in p ps)
   where
-    by : (o : Option SolSuffix) → sum_by (λ s. length s.values) (cons_option o (filter_map suffix_of ps)) ≡ option_map_or (λ s. length s.values) o 0 + sum_by (λ s. length s.values) (filter_map suffix_of ps)
+    by : (o : Option SolSuffix) → sum_by (λ s. length s.values) (cons_option o (filter_map suffix_of ps))
+        ≡ option_map_or (λ s. length s.values) o 0 + sum_by (λ s. length s.values) (filter_map suffix_of ps)
     by None = omega arith
     by (Some s) = sum_by-cons (λ x. length x.values) s (filter_map suffix_of ps)
 

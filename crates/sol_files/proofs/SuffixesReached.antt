@@ -7,8 +7,8 @@ use Rattle.std.proofs.lemmas.Bool.{lt-ltb, le-leb, leb-true, ltb-true, and_parts
 use Rattle.std.proofs.lemmas.Bool.Decides.{nat_tests}
 use Rattle.std.proofs.lemmas.List.{append-nil, append_assoc}
 use Rattle.std.proofs.lemmas.List.Sums.{sum_by-cons}
-use Rattle.texts.specs.Names.{is_name}
-use Rattle.texts.specs.Words.{row_of}
+use Rattle.text_base.specs.Names.{is_name}
+use Rattle.text_base.specs.Words.{row_of}
 use Rattle.exact_numbers.specs.declared.dec.Dec.{Dec}
 use Rattle.sol_files.specs.declared.awaited.Awaited.TheVariants.{Tail, Name, Table, Values}
 use Rattle.sol_files.specs.declared.awaited.SuffixHead.{SuffixHead}
@@ -16,12 +16,12 @@ use Rattle.sol_files.specs.declared.suffix.SolSuffix.{SolSuffix}
 use Rattle.sol_files.specs.Sol.{Sol}
 use Rattle.sol_files.specs.Progress.{Progress}
 use Rattle.sol_files.specs.Built.{with_suffix}
-use Rattle.texts.specs.Cut.{IsTextLine}
+use Rattle.text_base.specs.Cut.{IsTextLine}
 use Rattle.sol_files.specs.Rows.{pair_in}
 use Rattle.sol_files.specs.Tests.{row_tests, tail_tests, line_tests_at, has_index}
-use Rattle.shared_parts.specs.declared.suffix_kinds.Objects.{Objects}
-use Rattle.shared_parts.specs.declared.suffix_kinds.Objects.TheVariants.{Variables, Constraints, Objectives, Problem}
-use Rattle.shared_parts.specs.SuffixKinds.{object_limit, objects_of, wants_whole, count_among}
+use Rattle.nl_model.specs.declared.suffix_kinds.Objects.{Objects}
+use Rattle.nl_model.specs.declared.suffix_kinds.Objects.TheVariants.{Variables, Constraints, Objectives, Problem}
+use Rattle.nl_model.specs.SuffixKinds.{object_limit, objects_of, wants_whole, count_among}
 use Rattle.exact_numbers.specs.Numbers.{is_whole}
 use Rattle.sol_files.specs.Steps.{after_row, after_at, named_suffix, rest_awaits}
 use Rattle.sol_files.specs.Written.{head_line, value_line, suffix_lines, are_values, IsWritableSuffix}
@@ -63,7 +63,16 @@ are_head_words x h =
     record {
       some = omega arith;
       few = omega arith;
-      each = (record { is = record { some = omega arith; bytes = refl }; short = omega arith }, (word x.kind (small_kind x h), (word (length x.values) h.values, (word x.name_len h.name_len, (word x.table_len h.table_len, (word (length x.table) h.table, tt))))));
+      each = (
+        record { is = record { some = omega arith; bytes = refl }; short = omega arith },
+        (
+          word x.kind (small_kind x h),
+          (
+            word (length x.values) h.values,
+            (word x.name_len h.name_len, (word x.table_len h.table_len, (word (length x.table) h.table, tt))),
+          ),
+        ),
+      );
     }
 
 head_reached : (lines : List (List ℕ)) (s : Sol) (d p c t v : ℕ) (x : SolSuffix) → HasNumbers x → c < 1024 → t + length x.table ≤ 65536 → IsReached lines (at Tail s d p c t v)
@@ -88,7 +97,13 @@ head_reached lines s d p c t v x h room tables g =
       lt-leb 1024 c room,
       le-leb (t + length x.table) 65536 tables,
     ) refl)
-    (rw (whole_of-decimal x.kind kind, whole_of-decimal (length x.values) h.values, whole_of-decimal x.name_len h.name_len, whole_of-decimal x.table_len h.table_len, whole_of-decimal (length x.table) h.table) refl)
+    (rw (
+      whole_of-decimal x.kind kind,
+      whole_of-decimal (length x.values) h.values,
+      whole_of-decimal x.name_len h.name_len,
+      whole_of-decimal x.table_len h.table_len,
+      whole_of-decimal (length x.table) h.table,
+    ) refl)
 
 -- ---- the name
 
@@ -127,7 +142,8 @@ tables_some k n = rw (lt-ltb 0 (suc k) (omega arith)) refl
 values_some : (n : ℕ) → rest_awaits 0 (suc n) ≡ Values (suc n)
 values_some n = rw (lt-ltb 0 (suc n) (omega arith)) refl
 
-table_reached : (lines : List (List ℕ)) (s : Sol) (d p c t v n : ℕ) (x : SolSuffix) (rest : List (List ℕ)) → AllByRecursion IsTextLine rest → IsReached lines (at (rest_awaits (length rest) n) (with_suffix s x) d p c t v)
+table_reached : (lines : List (List ℕ)) (s : Sol) (d p c t v n : ℕ) (x : SolSuffix) (rest : List (List ℕ))
+    → AllByRecursion IsTextLine rest → IsReached lines (at (rest_awaits (length rest) n) (with_suffix s x) d p c t v)
     → IsReached (lines ++ rest) (at (rest_awaits 0 n) (with_suffix s (with_table x rest)) d p c t v)
 unfolding line_tests_at after_at
 table_reached lines s d p c t v n x [] all g =
@@ -136,10 +152,13 @@ table_reached lines s d p c t v n x [] all g =
 table_reached lines s d p c t v n x (line ∷ rest) all g =
     let less : suc (length rest) - 1 ≡ length rest = omega arith in
     let here = also lines _ (at (Table (suc (length rest)) n) (with_suffix s x) d p c t v) (ap (λ a. at a (with_suffix s x) d p c t v) (tables_some (length rest) n)) g in
-    let one = reached_more lines (at (Table (suc (length rest)) n) (with_suffix s x) d p c t v) (at (rest_awaits (length rest) n) (with_suffix s (with_table x (line ∷ []))) d p c t v) line here all.0 refl
+    let one = reached_more lines (at (Table (suc (length rest)) n) (with_suffix s x) d p c t v)
+    (at (rest_awaits (length rest) n) (with_suffix s (with_table x (line ∷ []))) d p c t v) line here all.0 refl
     (rw (less, change_last-end (λ y. with_table y (line ∷ [])) s.suffixes x) refl) in
     subst (λ ls. IsReached ls (at (rest_awaits 0 n) (with_suffix s (with_table x (line ∷ rest))) d p c t v)) (append_assoc lines (line ∷ []) rest)
-    (also _ _ _ (ap (λ ls. at (rest_awaits 0 n) (with_suffix s (record x { table = ls })) d p c t v) (append_assoc x.table (line ∷ []) rest)) (table_reached (lines ++ line ∷ []) s d p c t v n (with_table x (line ∷ [])) rest all.1 one))
+    (also _ _ _ (ap (λ ls. at (rest_awaits 0 n) (with_suffix s (record x { table = ls })) d p c t v)
+    (append_assoc x.table (line ∷ []) rest)) (table_reached (lines ++ line ∷ []) s d p c t v n
+    (with_table x (line ∷ [])) rest all.1 one))
 
 -- ---- the values
 
@@ -166,7 +185,8 @@ is_value s x t more h =
     or_else true true e = refl
     or_else true false e = absurd cc
 
-value_reached : (lines : List (List ℕ)) (s : Sol) (d p c t v n : ℕ) (x : SolSuffix) (pair : ℕ × Dec) → IsValue s x pair → pair.0 < 2 ^ 31 → v < 2 ^ 22 → IsReached lines (at (Values (suc n)) (with_suffix s x) d p c t v)
+value_reached : (lines : List (List ℕ)) (s : Sol) (d p c t v n : ℕ) (x : SolSuffix) (pair : ℕ × Dec) → IsValue s x pair
+    → pair.0 < 2 ^ 31 → v < 2 ^ 22 → IsReached lines (at (Values (suc n)) (with_suffix s x) d p c t v)
     → IsReached (lines ++ value_line pair ∷ []) (at (rest_awaits 0 n) (with_suffix s (with_more x (pair ∷ []))) d p c t (v + 1))
 unfolding row_tests after_row pair_in
 value_reached lines s d p c t v n x pair fits small room g =
@@ -177,7 +197,9 @@ value_reached lines s d p c t v n x pair fits small room g =
     (rw (last, are_digits-decimal pair.0 small, whole_of-decimal pair.0 small, dec_of-text pair.1, fits.below, fits.fresh, fits.whole, lt-leb (2 ^ 22) v room) refl)
     (rw (whole_of-decimal pair.0 small, dec_of-text pair.1, less, change_last-end (λ y. with_more y (pair ∷ [])) s.suffixes x) refl)
 
-values_reached : (lines : List (List ℕ)) (s : Sol) (d p c t v : ℕ) (x : SolSuffix) (rest : List (ℕ × Dec)) → are_values (limit_of s x) (wants_whole x.kind) x.values rest ≡ true → limit_of s x ≤ 2 ^ 20 → v + length rest ≤ 2 ^ 22
+values_reached : (lines : List (List ℕ)) (s : Sol) (d p c t v : ℕ) (x : SolSuffix) (rest : List (ℕ × Dec))
+    → are_values (limit_of s x) (wants_whole x.kind) x.values rest ≡ true → limit_of s x ≤ 2 ^ 20
+    → v + length rest ≤ 2 ^ 22
     → IsReached lines (at (rest_awaits 0 (length rest)) (with_suffix s x) d p c t v) → IsReached (lines ++ map value_line rest) (at Tail (with_suffix s (with_more x rest)) d p c t (v + length rest))
 values_reached lines s d p c t v x [] all most room g =
     let same : v ≡ v + 0 = omega arith in
@@ -204,7 +226,9 @@ most_objects n_var n_con kind var con = by (objects_of kind)
     by Objectives = omega arith
     by Problem = omega arith
 
-pub suffix_reached : (lines : List (List ℕ)) (s : Sol) (d p c t v : ℕ) (x : SolSuffix) → IsWritableSuffix s.n_var s.n_con x → s.n_var ≤ 2 ^ 20 → s.n_con ≤ 2 ^ 20 → c < 1024 → t + length x.table ≤ 65536 → v + length x.values ≤ 2 ^ 22
+pub suffix_reached : (lines : List (List ℕ)) (s : Sol) (d p c t v : ℕ) (x : SolSuffix)
+    → IsWritableSuffix s.n_var s.n_con x → s.n_var ≤ 2 ^ 20 → s.n_con ≤ 2 ^ 20 → c < 1024 → t + length x.table ≤ 65536
+    → v + length x.values ≤ 2 ^ 22
     → IsReached lines (at Tail s d p c t v) → IsReached (lines ++ suffix_lines x) (at Tail (with_suffix s x) d p (c + 1) (t + length x.table) (v + length x.values))
 suffix_reached lines s d p c t v x h var con room tables values g =
     let numbers : HasNumbers x = record { kind = h.kind; values = omega arith; name_len = h.name_len; table_len = h.table_len; table = omega arith } in
@@ -212,7 +236,9 @@ suffix_reached lines s d p c t v x h var con room tables values g =
     let named = name_reached (lines ++ head_line x ∷ []) s d p (c + 1) (t + length x.table) v (head_of x) x.name h.name head in
     let begun = named_suffix (head_of x) x.name in
     let table = table_reached ((lines ++ head_line x ∷ []) ++ x.name ∷ []) s d p (c + 1) (t + length x.table) v (length x.values) begun x.table h.table named in
-    let all = values_reached (((lines ++ head_line x ∷ []) ++ x.name ∷ []) ++ x.table) s d p (c + 1) (t + length x.table) v (with_table begun x.table) x.values h.values (most_objects s.n_var s.n_con x.kind var con) values table in
+    let all = values_reached (((lines ++ head_line x ∷ []) ++ x.name ∷ []) ++ x.table) s d p (c + 1)
+    (t + length x.table) v (with_table begun x.table) x.values h.values (most_objects s.n_var s.n_con x.kind var con)
+    values table in
     subst (λ ls. IsReached ls (at Tail (with_suffix s x) d p (c + 1) (t + length x.table) (v + length x.values))) (simp append_assoc) all
 
 -- ---- all suffixes
@@ -228,12 +254,21 @@ pub suffixes_reached : (lines : List (List ℕ)) (s : Sol) (d p c t v : ℕ) (re
     → c + length rest ≤ 1024 → t + sum_by (λ x. length x.table) rest ≤ 65536 → v + sum_by (λ x. length x.values) rest ≤ 2 ^ 22 → IsReached lines (at Tail s d p c t v)
     → IsSaid (lines ++ flat_map suffix_lines rest) (record s { suffixes = s.suffixes ++ rest })
 suffixes_reached lines s d p c t v [] all var con room tables values g =
-    record { last = at Tail s d p c t v; reached = subst (λ ls. IsReached ls (at Tail s d p c t v)) (sym (append-nil lines)) g; tail = refl; sol = ap (λ xs. record s { suffixes = xs }) (sym (append-nil s.suffixes)) }
+    record {
+      last = at Tail s d p c t v;
+      reached = subst (λ ls. IsReached ls (at Tail s d p c t v))
+          (sym (append-nil lines)) g;
+      tail = refl;
+      sol = ap (λ xs. record s { suffixes = xs })
+          (sym (append-nil s.suffixes));
+    }
 suffixes_reached lines s d p c t v (x ∷ rest) all var con room tables values g =
     let table_sum = sum_by-cons (λ y. length y.table) x rest in
     let value_sum = sum_by-cons (λ y. length y.values) x rest in
     let one = suffix_reached lines s d p c t v x all.0 var con (omega arith) (omega (arith, table_sum)) (omega (arith, value_sum)) g in
-    let more = suffixes_reached (lines ++ suffix_lines x) (with_suffix s x) d p (c + 1) (t + length x.table) (v + length x.values) rest all.1 var con (omega arith) (omega (arith, table_sum)) (omega (arith, value_sum)) one in
+    let more = suffixes_reached (lines ++ suffix_lines x) (with_suffix s x) d p (c + 1) (t + length x.table)
+    (v + length x.values) rest all.1 var con (omega arith) (omega (arith, table_sum)) (omega (arith, value_sum)) one
+    in
     record {
       last = more.last;
       reached = subst (λ ls. IsReached ls more.last) (append_assoc lines (suffix_lines x) (flat_map suffix_lines rest)) more.reached;

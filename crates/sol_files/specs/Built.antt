@@ -1,7 +1,7 @@
 -- What a builder and a value of a .sol file hold.
 use Rattle.std.specs.Prelude.{◌≡◌, ◌⊎◌, ℕ, ℤ, List, [], ◌∷◌, ◌++◌, length, None, false}
 use Rattle.exact_numbers.specs.declared.dec.Dec.{Dec}
-use Rattle.texts.specs.Cut.{IsOneLine}
+use Rattle.text_base.specs.Cut.{IsOneLine}
 use Rattle.sol_files.specs.declared.suffix.SolSuffix.{SolSuffix}
 use Rattle.sol_files.specs.Sol.{Sol}
 use Rattle.sol_files.specs.Parts.{is_options}

@@ -4,7 +4,7 @@ use Rattle.std.specs.Prelude.{ℕ, ◌+◌, ◌-◌, ◌==◌, Bool, true, false
 use Rattle.std.specs.List.{fold, before_first, after_first, list_any}
 use Rattle.std.specs.Option.{option_map_or}
 use Rattle.std.specs.Str.{bytes_eq}
-use Rattle.texts.specs.Words.{row_of, begins}
+use Rattle.text_base.specs.Words.{row_of, begins}
 use Rattle.sol_files.specs.Plan.{LineKind, NameLine, TableLine, Tail, row_plan, suffix_plan, next_in}
 use Rattle.sol_files.specs.Rows.{Row, number_in, value_size, table_size}
 

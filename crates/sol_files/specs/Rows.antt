@@ -1,6 +1,6 @@
 -- Words of lines, and what they say.
 use Rattle.std.specs.Prelude.{ℕ, ℤ, List, Option, Some, None, unwrap_or, option_map, option_and_then, if◌then◌else◌, codes}
-use Rattle.texts.specs.Words.{word_at, begins}
+use Rattle.text_base.specs.Words.{word_at, begins}
 use Rattle.exact_numbers.specs.declared.dec.Dec.{Dec}
 use Rattle.exact_numbers.specs.Numbers.{dec_of, signed_of, whole_of}
 

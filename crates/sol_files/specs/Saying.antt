@@ -2,7 +2,7 @@
 use Rattle.std.specs.Prelude.{ℕ, ◌+◌, List, [], ◌∷◌, take, drop, slice_get, Option, Some, None}
 use Rattle.std.specs.List.{filter_map}
 use Rattle.exact_numbers.specs.declared.dec.Dec.{Dec}
-use Rattle.texts.specs.Words.{row_of, word_at}
+use Rattle.text_base.specs.Words.{row_of, word_at}
 use Rattle.sol_files.specs.declared.suffix.SolSuffix.{SolSuffix}
 use Rattle.sol_files.specs.Sol.{Sol}
 use Rattle.sol_files.specs.Rows.{Row, number_in, option_in, value_in, objno_in, value_size, table_size, pair_in}

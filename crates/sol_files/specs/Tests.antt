@@ -5,12 +5,12 @@ use Rattle.std.specs.List.{list_any}
 use Rattle.std.specs.Option.{option_map_or}
 use Rattle.std.specs.Ordering.{int_eq}
 use Rattle.exact_numbers.specs.declared.dec.Dec.{Dec}
-use Rattle.texts.specs.Names.{is_name}
-use Rattle.texts.specs.Words.{row_of, word_at, begins}
-use Rattle.texts.specs.declared.lines.LineFault.{LineFault}
-use Rattle.texts.specs.declared.lines.LineFault.TheVariants.{LineTooLong as LongLine, InputTooLong as LongInput}
+use Rattle.text_base.specs.Names.{is_name}
+use Rattle.text_base.specs.Words.{row_of, word_at, begins}
+use Rattle.text_base.specs.declared.lines.LineFault.{LineFault}
+use Rattle.text_base.specs.declared.lines.LineFault.TheVariants.{LineTooLong as LongLine, InputTooLong as LongInput}
 use Rattle.exact_numbers.specs.Numbers.{are_digits, dec_of, is_whole, signed_of, whole_of}
-use Rattle.shared_parts.specs.SuffixKinds.{object_limit, wants_whole}
+use Rattle.nl_model.specs.SuffixKinds.{object_limit, wants_whole}
 use Rattle.sol_files.specs.Plan.{LineKind, Message, OptionCount, OptionRow, ConstraintCount, DualCount, VariableCount, PrimalCount, DualRow, PrimalRow, NameLine, TableLine, ValueRow, Tail}
 use Rattle.sol_files.specs.declared.fault.Refusal.{Refusal}
 use Rattle.sol_files.specs.declared.fault.Refusal.TheVariants.{Here, Late}

@@ -3,18 +3,18 @@ use Rattle.std.specs.Prelude.{◌≡◌, ℕ, ◌<◌, ◌≤◌, ◌^◌, ℤ, 
 use Rattle.std.specs.List.{flat_map, sum_by, AllByRecursion}
 use Rattle.std.specs.Fmt.{decimal, signed_decimal}
 use Rattle.exact_numbers.specs.declared.dec.Dec.{Dec}
-use Rattle.texts.specs.Names.{is_name}
+use Rattle.text_base.specs.Names.{is_name}
 use Rattle.exact_numbers.specs.Numbers.{has_31_bits, is_whole}
-use Rattle.shared_parts.specs.Options.{has_second_three}
+use Rattle.nl_model.specs.Options.{has_second_three}
 use Rattle.sol_files.specs.declared.suffix.SolSuffix.{SolSuffix}
 use Rattle.sol_files.specs.Sol.{Sol}
 use Rattle.sol_files.specs.Built.{AreGiven}
-use Rattle.texts.specs.Cut.{IsTextLine, ended_lines}
-use Rattle.texts.specs.WordLines.{spaced}
+use Rattle.text_base.specs.Cut.{IsTextLine, ended_lines}
+use Rattle.text_base.specs.WordLines.{spaced}
 use Rattle.exact_numbers.specs.Values.{text_of}
 use Rattle.sol_files.specs.Parts.{is_options}
 use Rattle.sol_files.specs.Tests.{has_index}
-use Rattle.shared_parts.specs.SuffixKinds.{object_limit, wants_whole}
+use Rattle.nl_model.specs.SuffixKinds.{object_limit, wants_whole}
 
 -- ---- the text
 

@@ -3,17 +3,17 @@ ghost use Rattle.std.specs.Prelude.{◌≡◌, ◌<◌, ◌++◌, ◌∷◌, [],
 ghost use Rattle.std.specs.List.{AllByRecursion};
 ghost use Rattle.sol_files.specs.Parts.{change_last};
 ghost use Rattle.sol_files.specs.Built.{AreGiven, IsMessageLine, empty_sol, with_message, with_dual, with_primal, with_suffix, with_table_line, with_value};
-ghost use Rattle.texts.specs.Cut.{IsOneLine};
+ghost use Rattle.text_base.specs.Cut.{IsOneLine};
 ghost use Rattle.sol_files.specs.Steps.{held_lines, lines_with};
 
 use crate::parts::SolParts;
 use crate::sol::Sol;
 use crate::suffix::SolSuffix;
 use exact_numbers::Dec;
-use shared_parts::{Decs, Options};
+use nl_model::{Decs, Options};
 use std::alloc::{AllocError, Global};
 use std::marker::Model;
-use texts::TextLines;
+use text_base::TextLines;
 
 /// A value of a .sol file that is being built.
 #[derive(Drop)]

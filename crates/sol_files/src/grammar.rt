@@ -1,8 +1,8 @@
 // The grammar of .sol texts, a line at a time.
 ghost use Rattle.std.specs.Prelude.{◌≡◌, ◌&&◌, ◌==◌, ◌<◌, ◌≤◌, not, [], List, ℕ, length, true, false, None, Some, IfOk, IfErr, OnOk};
-ghost use Rattle.texts.specs.Judged.{Takes, first_reason};
-ghost use Rattle.texts.specs.Cut.{IsTextLine};
-ghost use Rattle.texts.specs.Words.{row_of, texts, begins};
+ghost use Rattle.text_base.specs.Judged.{Takes, first_reason};
+ghost use Rattle.text_base.specs.Cut.{IsTextLine};
+ghost use Rattle.text_base.specs.Words.{row_of, texts, begins};
 ghost use Rattle.sol_files.specs.Sol.{Sol};
 ghost use Rattle.sol_files.specs.Parts.{is_options};
 ghost use Rattle.sol_files.specs.Standing.{is_message, message_count};
@@ -15,10 +15,10 @@ use crate::awaited::Awaited;
 use crate::builder::SolBuilder;
 use crate::fault::{Refusal, SolReason};
 use crate::sol::Sol;
-use shared_parts::Options;
+use nl_model::Options;
 use std::alloc::{AllocError, Global};
 use std::marker::Model;
-use texts::{Grammar, LineFault, Marks, Row, Stop};
+use text_base::{Grammar, LineFault, Marks, Row, Stop};
 
 /// The message has at most so many lines.
 const MOST_LINES: usize = 65_536;

@@ -1,7 +1,7 @@
 // The lines with options and counts.
 ghost use Rattle.std.specs.Prelude.{◌≡◌, length};
-ghost use Rattle.texts.specs.Judged.{Takes};
-ghost use Rattle.texts.specs.Words.{texts};
+ghost use Rattle.text_base.specs.Judged.{Takes};
+ghost use Rattle.text_base.specs.Words.{texts};
 ghost use Rattle.sol_files.specs.Tests.{count_tests, dec_tests, given_tests, option_tests, size_tests};
 ghost use Rattle.sol_files.specs.Steps.{after_constraints, after_dual, after_dual_count, after_option, after_option_count, after_primal, after_primal_count, after_variables, options_await, values_await};
 
@@ -9,7 +9,7 @@ use crate::awaited::Awaited;
 use crate::fault::{Refusal, SolReason};
 use crate::grammar::{SolGrammar, here};
 use crate::rows::{MOST_OPTIONS, MOST_VALUES, read_given, read_number, read_option, read_value};
-use texts::Stop;
+use text_base::Stop;
 
 // The line that is awaited where so many options are left.
 fn options_await(left: u32) -> Awaited

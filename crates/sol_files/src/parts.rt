@@ -1,6 +1,6 @@
 use crate::suffix::SolSuffix;
-use shared_parts::{Decs, Options};
-use texts::TextLines;
+use nl_model::{Decs, Options};
+use text_base::TextLines;
 
 // The parts of a .sol file.
 #[derive(Drop)]

@@ -1,11 +1,11 @@
 // A reader of .sol texts.
 ghost use Rattle.std.specs.Prelude.{◌≡◌, ◌++◌, List, ℕ, [], IfOk, IfErr, IfSome, OnOk, MatchResult, Err, option_map, None};
 ghost use Rattle.std.specs.Result.{result_err};
-ghost use Rattle.texts.specs.declared.stop.Stop.TheVariants.{Memory};
+ghost use Rattle.text_base.specs.declared.stop.Stop.TheVariants.{Memory};
 ghost use Rattle.sol_files.specs.Sol.{Sol as SolValue};
 ghost use Rattle.sol_files.specs.Written.{IsWritable, sol_text};
-ghost use Rattle.texts.specs.Stopped.{IfFault};
-ghost use Rattle.texts.specs.Reading.{IsFreeSoFar};
+ghost use Rattle.text_base.specs.Stopped.{IfFault};
+ghost use Rattle.text_base.specs.Reading.{IsFreeSoFar};
 ghost use Rattle.sol_files.specs.Grammar.{sol_rules};
 ghost use Rattle.sol_files.specs.Reader.{IsFed, ReadsSol, HasSolFaultSoFar};
 ghost use Rattle.sol_files.specs.Told.{told_stop};
@@ -15,7 +15,7 @@ use crate::grammar::SolGrammar;
 use crate::sol::Sol;
 use std::alloc::{AllocError, Global};
 use std::marker::Model;
-use texts::{Reader, Stop};
+use text_base::{Reader, Stop};
 
 /// Reads a .sol text that comes in pieces.
 #[derive(Drop)]

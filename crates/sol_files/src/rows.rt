@@ -1,7 +1,7 @@
 // Rows of numbers, judged by their words.
 ghost use Rattle.std.specs.Prelude.{◌≡◌, ◌+◌, ◌<◌, ◌≤◌, ◌^◌, not, ◌&&◌, Some, None, IfOk, IfErr, OnOk};
-ghost use Rattle.texts.specs.Judged.{first_reason};
-ghost use Rattle.texts.specs.Words.{texts, word_at};
+ghost use Rattle.text_base.specs.Judged.{first_reason};
+ghost use Rattle.text_base.specs.Words.{texts, word_at};
 ghost use Rattle.sol_files.specs.declared.fault.Refusal.TheVariants.{Here};
 ghost use Rattle.sol_files.specs.Rows.{number_in, option_in, value_in, both};
 ghost use Rattle.exact_numbers.specs.Numbers.{signed_of};
@@ -10,7 +10,7 @@ ghost use Rattle.sol_files.specs.Tests.{limited_tests, option_tests, given_tests
 
 use crate::fault::SolReason;
 use exact_numbers::{Dec, are_digits, dec_of, signed_of, whole_of};
-use texts::word_at;
+use text_base::word_at;
 
 // There are at most so many options.
 pub(crate) const MOST_OPTIONS: u32 = 9;

@@ -1,18 +1,18 @@
 // Rows of suffixes, judged by their words.
 ghost use Rattle.std.specs.Prelude.{◌≡◌, ◌+◌, ◌<◌, ◌≤◌, ◌&&◌, not, Some, None, IfOk, IfErr, OnOk};
-ghost use Rattle.texts.specs.Judged.{first_reason};
-ghost use Rattle.texts.specs.Words.{texts, word_at};
+ghost use Rattle.text_base.specs.Judged.{first_reason};
+ghost use Rattle.text_base.specs.Words.{texts, word_at};
 ghost use Rattle.exact_numbers.specs.Numbers.{whole_of, is_whole};
 ghost use Rattle.sol_files.specs.declared.fault.Refusal.TheVariants.{Here};
 ghost use Rattle.sol_files.specs.Rows.{number_in, pair_in};
 ghost use Rattle.sol_files.specs.Steps.{head_in};
 ghost use Rattle.sol_files.specs.Tests.{are_all_digits, are_head_numbers, has_table_room, is_below, pair_tests, suffix_tests};
-ghost use Rattle.shared_parts.specs.SuffixKinds.{object_limit, wants_whole};
+ghost use Rattle.nl_model.specs.SuffixKinds.{object_limit, wants_whole};
 
 use crate::awaited::SuffixHead;
 use crate::fault::SolReason;
 use exact_numbers::{Dec, are_digits, dec_of, whole_of};
-use texts::word_at;
+use text_base::word_at;
 
 // There are at most so many suffixes.
 const MOST_SUFFIXES: u32 = 1024;

@@ -1,13 +1,13 @@
 // The lines after the values: `objno`, and the suffixes.
 ghost use Rattle.std.specs.Prelude.{◌≡◌, ◌<◌, ◌≤◌, ◌||◌, length, true, is_some, nat_lt, None, Some, IfOk, IfErr, OnOk, codes};
-ghost use Rattle.texts.specs.Judged.{Takes, first_reason};
-ghost use Rattle.texts.specs.Names.{IsName};
-ghost use Rattle.texts.specs.Words.{texts, begins, word_at};
+ghost use Rattle.text_base.specs.Judged.{Takes, first_reason};
+ghost use Rattle.text_base.specs.Names.{IsName};
+ghost use Rattle.text_base.specs.Words.{texts, begins, word_at};
 ghost use Rattle.sol_files.specs.declared.fault.Refusal.TheVariants.{Here};
 ghost use Rattle.sol_files.specs.Rows.{pair_in};
 ghost use Rattle.sol_files.specs.Progress.{seen};
 ghost use Rattle.sol_files.specs.Tests.{index_limit, last_kind, name_tests, objno_tests, suffix_tests, tail_tests, value_tests};
-ghost use Rattle.shared_parts.specs.SuffixKinds.{wants_whole};
+ghost use Rattle.nl_model.specs.SuffixKinds.{wants_whole};
 ghost use Rattle.sol_files.specs.InsideJudging.{marked_value_tests};
 ghost use Rattle.sol_files.specs.Steps.{after_name, after_objno, after_suffix_head, after_table, after_tail, after_value, rest_awaits};
 
@@ -19,8 +19,8 @@ use crate::suffix::SolSuffix;
 use crate::suffix_rows::{MOST_OBJECTIVES, read_head, read_pair};
 use exact_numbers::Dec;
 use linear_program::Terms;
-use shared_parts::{object_limit, wants_whole};
-use texts::{Marks, Name, Stop, TextLines, begins, is_name, word_at};
+use nl_model::{object_limit, wants_whole};
+use text_base::{Marks, Name, Stop, TextLines, begins, is_name, word_at};
 
 // All suffixes have at most so many values.
 const MOST_VALUES: u32 = 4_194_304;

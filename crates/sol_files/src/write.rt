@@ -3,17 +3,17 @@ ghost use Rattle.std.specs.Prelude.{◌≡◌, ◌++◌, ◌∷◌, ℤ, pos, []
 ghost use Rattle.std.specs.List.{flat_map};
 ghost use Rattle.std.specs.Fmt.{decimal, signed_decimal};
 ghost use Rattle.sol_files.specs.Written.{head_line, objno_lines, size_lines, sol_text, suffix_lines, value_line};
-ghost use Rattle.texts.specs.Cut.{ended_lines};
-ghost use Rattle.texts.specs.WordLines.{spaced};
+ghost use Rattle.text_base.specs.Cut.{ended_lines};
+ghost use Rattle.text_base.specs.WordLines.{spaced};
 ghost use Rattle.exact_numbers.specs.Values.{text_of};
 
 use crate::sol::Sol;
 use crate::suffix::SolSuffix;
 use exact_numbers::Dec;
 use linear_program::Terms;
-use shared_parts::Options;
+use nl_model::Options;
 use std::alloc::{AllocError, Global};
-use texts::TextLines;
+use text_base::TextLines;
 use written_texts::{
     put, put_dec, put_end, put_line, put_next_dec, put_next_number, put_next_signed, put_number,
     put_signed,

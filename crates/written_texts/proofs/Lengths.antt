@@ -1,5 +1,7 @@
 -- How long written numbers are.
-use Rattle.std.proofs.Common.{◌≡◌, ℕ, suc, ◌+◌, ◌-◌, ◌<◌, ◌≤◌, ◌^◌, Bool, true, false, cond, List, [], ◌∷◌, ◌++◌, length, take, drop, ℤ, pos, negsuc, refl, ap, arith, length-append, lit<, lt_trans, lt_of_le_of_lt, nat_le, int_lt, unsigned_abs}
+use Rattle.std.proofs.Common.{◌≡◌, ℕ, suc, ◌+◌, ◌-◌, ◌<◌, ◌≤◌, ◌^◌, Bool, true, false, cond, List, [], ◌∷◌, ◌++◌}
+use Rattle.std.proofs.Common.{length, take, drop, ℤ, pos, negsuc, refl, ap, arith, length-append, lit<, lt_trans}
+use Rattle.std.proofs.Common.{lt_of_le_of_lt, nat_le, int_lt, unsigned_abs}
 use Rattle.std.specs.Fmt.{decimal, signed_decimal}
 use Rattle.std.proofs.lemmas.Bool.{leb-true, ltb-true}
 use Rattle.std.proofs.lemmas.Fmt.{length-decimal-le_wide}

@@ -1,18 +1,19 @@
 -- Written lines are lines of a text, and its lines are the written ones.
-use Rattle.std.proofs.Common.{◌≡◌, ◌∙◌, ℕ, zero, suc, ◌+◌, ◌-◌, ◌*◌, ◌^◌, ◌<◌, ◌≤◌, ◌==◌, true, false, List, [], ◌∷◌, ◌++◌, length, map, take, get_or, refl, sym, ap, arith, nat_le, length-append, subst}
+use Rattle.std.proofs.Common.{◌≡◌, ◌∙◌, ℕ, zero, suc, ◌+◌, ◌-◌, ◌*◌, ◌^◌, ◌<◌, ◌≤◌, ◌==◌, true, false, List, [], ◌∷◌}
+use Rattle.std.proofs.Common.{◌++◌, length, map, take, get_or, refl, sym, ap, arith, nat_le, length-append, subst}
 use Rattle.std.proofs.lemmas.Bool.{and_parts, leb-true}
 use Rattle.std.proofs.lemmas.Bool.Decides.{nat_tests}
 use Rattle.std.proofs.lemmas.List.{take_all}
 use Rattle.std.proofs.lemmas.List.Folds.{flat_map-map}
 use Rattle.std.proofs.lemmas.List.Sums.{suffix_len_is}
 use Rattle.std.specs.List.{AllByRecursion, suffix_len}
-use Rattle.texts.proofs.ReadingLemmas.{written_lines}
-use Rattle.texts.specs.Cut.{HasNoEnd, IsTextLine, ended_lines}
-use Rattle.texts.specs.Judged.{End}
-use Rattle.texts.specs.Lines.{trimmed}
-use Rattle.texts.specs.Names.{has_name_bytes}
-use Rattle.texts.specs.Reading.{lines_of, last_of}
-use Rattle.texts.specs.WordLines.{WordLine, indented, spaced, lines_text}
+use Rattle.text_base.proofs.ReadingLemmas.{written_lines}
+use Rattle.text_base.specs.Cut.{HasNoEnd, IsTextLine, ended_lines}
+use Rattle.text_base.specs.Judged.{End}
+use Rattle.text_base.specs.Lines.{trimmed}
+use Rattle.text_base.specs.Names.{has_name_bytes}
+use Rattle.text_base.specs.Reading.{lines_of, last_of}
+use Rattle.text_base.specs.WordLines.{WordLine, indented, spaced, lines_text}
 use Rattle.written_texts.specs.Words.{IsWord, IsWordLine}
 
 -- spaces and bytes of words

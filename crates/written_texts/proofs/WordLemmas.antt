@@ -4,10 +4,10 @@ use Rattle.std.proofs.lemmas.Bool.{and_parts}
 use Rattle.std.proofs.lemmas.Bool.Decides.{nat_tests}
 use Rattle.std.proofs.lemmas.List.{take_all, append-nil}
 use Rattle.std.specs.List.{AllByRecursion}
-use Rattle.texts.specs.Names.{has_name_bytes}
-use Rattle.texts.specs.Words.{is_blank, onto_word, ends_word, words_of, row_of, up_to_comment, without_comment}
-use Rattle.texts.specs.WordLines.{WordLine, indented, spaced}
-use Rattle.texts.proofs.WordLemmas.{begins}
+use Rattle.text_base.specs.Names.{has_name_bytes}
+use Rattle.text_base.specs.Words.{is_blank, onto_word, ends_word, words_of, row_of, up_to_comment, without_comment}
+use Rattle.text_base.specs.WordLines.{WordLine, indented, spaced}
+use Rattle.text_base.proofs.WordLemmas.{begins}
 use Rattle.written_texts.specs.Words.{IsWord, IsKeptWord, IsWritten}
 
 -- ---- bytes of words

@@ -4,7 +4,7 @@ use Rattle.std.proofs.lemmas.Grind.{flat_map-append}
 use Rattle.std.proofs.lemmas.List.Folds.{flat_map-map}
 use Rattle.std.proofs.lemmas.Option.{slice_get_within, get_or_from_slice_get}
 use Rattle.std.specs.List.{flat_map, slice_get}
-use Rattle.texts.specs.WordLines.{WordLine, line_text, lines_text, spaced}
+use Rattle.text_base.specs.WordLines.{WordLine, line_text, lines_text, spaced}
 
 -- lines, and after them further ones
 pub lines_after : (before lines more : List ℕ) (a b : List WordLine) → lines ≡ before ++ lines_text a → more ≡ lines ++ lines_text b → more ≡ before ++ lines_text (a ++ b)

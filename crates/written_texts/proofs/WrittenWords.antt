@@ -1,5 +1,7 @@
 -- Numbers that are written are words, and no comments.
-use Rattle.std.proofs.Common.{◌≡◌, ℕ, zero, suc, ◌+◌, ◌-◌, ◌^◌, ◌<◌, ◌≤◌, ◌==◌, Bool, true, false, cond, List, [], ◌∷◌, ◌++◌, length, take, drop, refl, arith, nat_le, int_lt, unsigned_abs, ℤ, pos, negsuc, lt_trans, lt_of_le_of_lt, lit<, length-append}
+use Rattle.std.proofs.Common.{◌≡◌, ℕ, zero, suc, ◌+◌, ◌-◌, ◌^◌, ◌<◌, ◌≤◌, ◌==◌, Bool, true, false, cond, List, [], ◌∷◌}
+use Rattle.std.proofs.Common.{◌++◌, length, take, drop, refl, arith, nat_le, int_lt, unsigned_abs, ℤ, pos, negsuc}
+use Rattle.std.proofs.Common.{lt_trans, lt_of_le_of_lt, lit<, length-append}
 use Rattle.std.proofs.lemmas.Bool.{le-leb, ltb-true, and_from}
 use Rattle.std.proofs.lemmas.Bool.Decides.{nat_tests}
 use Rattle.std.proofs.lemmas.Fmt.{decimal_is_IsNumeral_wide}
@@ -9,7 +11,7 @@ use Rattle.exact_numbers.proofs.Texts.{digit_byte}
 use Rattle.exact_numbers.specs.Numbers.{has_31_bits}
 use Rattle.exact_numbers.specs.Written.{zeros, with_point, padded, scaled_text}
 use Rattle.exact_numbers.specs.declared.dec.Dec.{Dec}
-use Rattle.texts.specs.Names.{has_name_bytes}
+use Rattle.text_base.specs.Names.{has_name_bytes}
 use Rattle.exact_numbers.specs.Values.{text_of}
 use Rattle.written_texts.specs.Words.{IsKeptWord, IsWritten}
 

@@ -1,8 +1,8 @@
 -- Words and lines that are read as themselves.
 use Rattle.std.specs.Prelude.{◌≡◌, ℕ, ◌<◌, ◌≤◌, ◌==◌, false, true, List, length, slice_index}
 use Rattle.std.specs.List.{AllByRecursion}
-use Rattle.texts.specs.Names.{has_name_bytes}
-use Rattle.texts.specs.WordLines.{WordLine, spaced}
+use Rattle.text_base.specs.Names.{has_name_bytes}
+use Rattle.text_base.specs.WordLines.{WordLine, spaced}
 
 -- some bytes, none of which is a blank or ends a line
 pub record IsWord (word : List ℕ) : Type 0 where

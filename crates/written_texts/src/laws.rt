@@ -2,13 +2,13 @@
 ghost use Rattle.std.specs.Prelude.{◌≡◌, ℕ, ℤ, ◌^◌, ◌<◌, ◌≤◌, List, length, map, unsigned_abs, true, Some};
 ghost use Rattle.std.specs.List.{AllByRecursion};
 ghost use Rattle.std.specs.Fmt.{decimal, signed_decimal};
-ghost use Rattle.texts.specs.Judged.{End};
-ghost use Rattle.texts.specs.Reading.{lines_of, last_of};
-ghost use Rattle.texts.specs.Words.{words_of, without_comment};
+ghost use Rattle.text_base.specs.Judged.{End};
+ghost use Rattle.text_base.specs.Reading.{lines_of, last_of};
+ghost use Rattle.text_base.specs.Words.{words_of, without_comment};
 ghost use Rattle.exact_numbers.specs.declared.dec.Dec.{Dec};
 ghost use Rattle.exact_numbers.specs.Numbers.{dec_of, has_31_bits, signed_of, whole_of};
 ghost use Rattle.exact_numbers.specs.Values.{text_of};
-ghost use Rattle.texts.specs.WordLines.{WordLine, indented, lines_text, spaced};
+ghost use Rattle.text_base.specs.WordLines.{WordLine, indented, lines_text, spaced};
 ghost use Rattle.written_texts.specs.Words.{IsWord, IsKeptWord, IsWordLine};
 
 /// Words with a space between them, or a space before each, are read as themselves, and as no

@@ -1,5 +1,5 @@
 use Rattle.std.proofs.Common.{◌≡◌, ◌++◌, map, take}
-use Rattle.texts.specs.WordLines.{lines_text}
+use Rattle.text_base.specs.WordLines.{lines_text}
 use Rattle.mps_model.specs.Text.{row_line}
 use Rattle.mps_writer.proofs.put_row_lines.Given as goal
 

@@ -1,7 +1,7 @@
 use Rattle.std.proofs.Common.{◌≡◌, ◌<◌, ◌++◌, ◌∷◌, [], ◌∙◌, ap, ap₂, false, length, List, map, subst, sym, All, codes}
 use Rattle.exact_numbers.specs.Values.{text_of}
-use Rattle.texts.specs.Names.{IsName}
-use Rattle.texts.specs.WordLines.{lines_text, unless_empty}
+use Rattle.text_base.specs.Names.{IsName}
+use Rattle.text_base.specs.WordLines.{lines_text, unless_empty}
 use Rattle.written_texts.proofs.Writing.{lines_after, line_after}
 use Rattle.mps_model.specs.Built.{entry_of, bound_of}
 use Rattle.mps_model.specs.Mps.{MpsRow}
@@ -23,7 +23,9 @@ put_ranges-requires-clause-rows c = subst are_named (sym c.rows-rows.ensures.val
 
 pub put_rhs-requires-clause-within : goal.put_rhs-requires-clause-within
 put_rhs-requires-clause-within c =
-    subst (λ n. All (λ t. t.0 < length n) c.rhs-rhs.result.now) (sym c.rows-rows.ensures.value) (terms_in_rows (length c.args.mps.now.rows) c.rhs-rhs.result.now c.args.mps.now.rhs c.rhs-rhs.ensures.value c.rhs-rhs.ensures.valid.part.rhs.within)
+    subst (λ n. All (λ t. t.0 < length n) c.rhs-rhs.result.now) (sym c.rows-rows.ensures.value)
+    (terms_in_rows (length c.args.mps.now.rows) c.rhs-rhs.result.now c.args.mps.now.rhs c.rhs-rhs.ensures.value
+    c.rhs-rhs.ensures.valid.part.rhs.within)
 
 pub put_ranges-requires-clause-within : goal.put_ranges-requires-clause-within
 put_ranges-requires-clause-within c =

@@ -1,5 +1,5 @@
 use Rattle.std.proofs.Common.{◌∙◌, length, sym, ap}
-use Rattle.program_meaning.specs.Linear.{row_count, variable_count}
+use Rattle.linear_program.specs.Linear.{row_count, variable_count}
 use Rattle.nl_segments.specs.Reader.{value_of}
 use Rattle.bridge_tool.proofs.Verdicts.{all_duals, all_primals}
 use Rattle.bridge_tool.proofs.check.certified.Goals as goal

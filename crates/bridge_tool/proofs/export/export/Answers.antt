@@ -10,4 +10,5 @@ returns-in-Err g c = only_stopped (export_last c.args.objective) (λ nl bytes. I
 pub returns : goal.returns
 returns g c =
     ended_in_pieces (export_last c.args.objective) (λ nl bytes. IsExportMeant nl c.args.objective) NoVerdict c.args.file.now value_of _ _ c.in-Ok.read c.in-Ok.ensures.reads _ _ _ _ _
-    c.to_output-judged.ensures.comes (meant_always c.to_output-judged.result _ c.to_output-judged.ensures.means) c.end_in_pieces.ensures c.to_output-judged.ensures.above c.to_output-judged.ensures.counts
+    c.to_output-judged.ensures.comes (meant_always c.to_output-judged.result _ c.to_output-judged.ensures.means)
+    c.end_in_pieces.ensures c.to_output-judged.ensures.above c.to_output-judged.ensures.counts

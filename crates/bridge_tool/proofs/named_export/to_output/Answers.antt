@@ -1,6 +1,6 @@
 use Rattle.std.proofs.Common.{sym, subst}
 use Rattle.nl_segments.specs.Reader.{value_of}
-use Rattle.scaling.specs.Exported.{scaled_as}
+use Rattle.row_scaling.specs.Exported.{scaled_as}
 use Rattle.bridge_tool.specs.NamedExport.{AreNamedMeant, IsNamedExport, Named}
 use Rattle.bridge_tool.proofs.NamedExporting.{written_so, export_named, named_meant}
 use Rattle.command_parts.proofs.ExportStages.{exports_so}

@@ -1,6 +1,6 @@
 use Rattle.std.proofs.Common.{subst}
-use Rattle.program_meaning.specs.Linear.{Linear}
-use Rattle.branch_check.specs.Leaves.{IsVerdictOn}
+use Rattle.linear_program.specs.Linear.{Linear}
+use Rattle.branch_proof.specs.Leaves.{IsVerdictOn}
 use Rattle.bridge_tool.proofs.prove.verdict_of.Goals as goal
 
 pub returns-clause-exact : goal.returns-clause-exact

@@ -9,12 +9,15 @@ use Rattle.bridge_tool.proofs.returns.make.Goals.{In_ok-scaled}
 -- the answer is one for the file, whose program is scaled so
 is_one : (g : _) (c : In_ok-scaled g) → IsAnswered c.counts-counts.result.now c.options_of-options.result c.in_ok-scaled.scaled c.args.given.now c.args.read.file
 is_one g c =
-    answered (value_of c.args.read) c.args.given.now c.objective-objective.result c.objective-objective.ensures c.counts-counts.result.now c.options_of-options.result c.in_ok-linear.linear c.in_ok-scaled.scaled
+    answered (value_of c.args.read) c.args.given.now c.objective-objective.result c.objective-objective.ensures
+    c.counts-counts.result.now c.options_of-options.result c.in_ok-linear.linear c.in_ok-scaled.scaled
     (c.counts-counts.ensures.value ∙ c.header-header.ensures.counts) c.options_of-options.ensures c.requires.made c.in_ok-linear.ensures.folds c.in_ok-scaled.ensures
 
 -- and it can be exported
 can_be : (g : _) (c : In_ok-scaled g) → CanBeExported (value_of c.args.read) c.args.given.now.objective
-can_be g c = staged_by (value_of c.args.read) c.args.given.now c.objective-objective.result c.objective-objective.ensures c.in_ok-linear.linear c.in_ok-scaled.scaled c.in_ok-linear.ensures.folds c.in_ok-scaled.ensures
+can_be g c = staged_by (value_of c.args.read) c.args.given.now c.objective-objective.result
+    c.objective-objective.ensures c.in_ok-linear.linear c.in_ok-scaled.scaled c.in_ok-linear.ensures.folds
+    c.in_ok-scaled.ensures
 
 pub solution_by_header-requires : goal.solution_by_header-requires
 solution_by_header-requires g c = (c.args.read.file, is_one g (goal.at.solution_by_header-requires g c).In_ok-scaled)

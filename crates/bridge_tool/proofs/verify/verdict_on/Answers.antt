@@ -1,5 +1,5 @@
 use Rattle.std.proofs.Common.{◌≡◌, ◌∙◌, None, sym, ap, ap₂, subst}
-use Rattle.program_meaning.specs.Linear.{Linear}
+use Rattle.linear_program.specs.Linear.{Linear}
 use Rattle.linear_program.specs.Programs.{linear_value}
 use Rattle.certificates.specs.Certificates.{IsCertificateOf, claim_outcome}
 use Rattle.certificate_judge.specs.Outcomes.{outcome_of}
@@ -14,6 +14,8 @@ outcome_line-requires c = subst HasFittingBound (sym c.claim.ensures) (bound_fit
 
 pub returns : goal.returns
 returns c =
-    let exact = subst (λ (f : Linear). (h : IsCertificateOf f c.args.certificate.now) → outcome_of c.in_ok-outcome.outcome ≡ claim_outcome f c.args.certificate.now.claim h.given) c.in_ok-program.ensures c.in_ok-outcome.ensures.exact in
+    let exact = subst (λ (f : Linear). (h : IsCertificateOf f c.args.certificate.now)
+    → outcome_of c.in_ok-outcome.outcome ≡ claim_outcome f c.args.certificate.now.claim h.given)
+    c.in_ok-program.ensures c.in_ok-outcome.ensures.exact in
     let shown = shown_so (linear_value c.args.linear) c.args.certificate.now c.requires (outcome_of c.in_ok-outcome.outcome) exact in
     ap₂ Done c.is_held.ensures (c.in_ok-line.ensures ∙ ap (λ claim. outcome_line claim (outcome_of c.in_ok-outcome.outcome)) c.claim.ensures) ∙ ap (λ o. by_linear c.args.certificate.now o None) shown

@@ -1,7 +1,7 @@
 use Rattle.std.proofs.Common.{◌∙◌, ap}
-use Rattle.program_meaning.specs.Linear.{row_count}
-use Rattle.duality.specs.Branch.{proof_fault}
-use Rattle.duality.specs.Certificate.{judged, with_leaves}
+use Rattle.linear_program.specs.Linear.{row_count}
+use Rattle.certificates.specs.Branch.{proof_fault}
+use Rattle.certificates.specs.Certificate.{judged, with_leaves}
 use Rattle.exact_numbers.specs.Values.{frac_value}
 use Rattle.certificates.specs.Certificates.{tree_over}
 use Rattle.exact_checks.specs.Programs.{program_value}

@@ -1,6 +1,6 @@
 use Rattle.std.proofs.Common.{◌∙◌, ap}
-use Rattle.program_meaning.specs.Linear.{row_count}
-use Rattle.duality.specs.Certificate.{judged, with_proof}
+use Rattle.linear_program.specs.Linear.{row_count}
+use Rattle.certificates.specs.Certificate.{judged, with_proof}
 use Rattle.certificates.specs.Certificates.{tree_over}
 use Rattle.exact_checks.specs.Programs.{program_value}
 use Rattle.exact_checks.proofs.SumLemmas.{if_put}

@@ -14,10 +14,14 @@ pub fraction-requires : goal.fraction-requires
 fraction-requires c = (number_at 0 c.requires.0 c.args.pairs.now c.loop-pair.pair-index c.pair-item.result c.requires.1 c.loop-pair-test.true c.pair-item.is).1
 
 pub loop-pair-preserved-then-is_zero : goal.loop-pair-preserved-then-is_zero
-loop-pair-preserved-then-is_zero c = pair_skipped c.args.pairs.now c.loop-pair.terms.items c.loop-pair.pair-index c.loop-pair.invariant c.requires.0 c.requires.1 c.pair-item.result c.loop-pair-test.true c.pair-item.is (c.is_zero.ensures.0 c.if-is_zero.true)
+loop-pair-preserved-then-is_zero c = pair_skipped c.args.pairs.now c.loop-pair.terms.items c.loop-pair.pair-index
+    c.loop-pair.invariant c.requires.0 c.requires.1 c.pair-item.result c.loop-pair-test.true c.pair-item.is
+    (c.is_zero.ensures.0 c.if-is_zero.true)
 
 pub loop-pair-preserved : goal.loop-pair-preserved
-loop-pair-preserved c = pair_added c.args.pairs.now c.loop-pair.terms.items c.loop-pair.pair-index c.loop-pair.invariant c.requires.0 c.requires.1 c.pair-item.result c.loop-pair-test.true c.pair-item.is c.fraction.result c.push.new.self.items c.fraction.ensures
+loop-pair-preserved c = pair_added c.args.pairs.now c.loop-pair.terms.items c.loop-pair.pair-index c.loop-pair.invariant
+    c.requires.0 c.requires.1 c.pair-item.result c.loop-pair-test.true c.pair-item.is c.fraction.result
+    c.push.new.self.items c.fraction.ensures
     (not_zero c.is_zero.result (number_value c.pair-item.result.1) c.is_zero.ensures.1 c.if-is_zero.false) c.in_ok-push.ensures.items
 
 pub returns-clause-sum : goal.returns-clause-sum

@@ -1,9 +1,9 @@
 use Rattle.std.proofs.Common.{◌<◌, subst, true, false}
-use Rattle.program_meaning.specs.Linear.{variable_count}
+use Rattle.linear_program.specs.Linear.{variable_count}
 use Rattle.exact_checks.specs.Programs.{program_value}
 use Rattle.exact_checks.proofs.Firsts.{first_goes_on, first_stops}
 use Rattle.certificate_judge.specs.InsidePoints.{point_of}
-use Rattle.duality.specs.Certificate.{whole_fault, wholeness}
+use Rattle.certificates.specs.Certificate.{whole_fault, wholeness}
 use Rattle.certificate_judge.proofs.RowsAt.{wholeness_is}
 use Rattle.certificate_judge.proofs.point.first_not_whole.Goals as goal
 

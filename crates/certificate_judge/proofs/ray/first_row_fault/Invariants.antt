@@ -1,6 +1,6 @@
 use Rattle.std.proofs.Common.{◌≡◌, None}
-use Rattle.duality.specs.Ray.{ray_row_fault}
-use Rattle.duality.specs.Verdict.{first_fault}
+use Rattle.certificates.specs.Ray.{ray_row_fault}
+use Rattle.certificates.specs.Verdict.{first_fault}
 use Rattle.exact_checks.specs.Programs.{program_value}
 use Rattle.certificate_judge.specs.InsidePoints.{point_of}
 use Rattle.certificate_judge.proofs.ray.first_row_fault.Given as goal

@@ -1,7 +1,7 @@
 use Rattle.std.proofs.Common.{◌≡◌, ◌∙◌, ap, subst, sym, pos, to_z-of_z}
 use mir.Syntax.{w128}
 use mir.Val.{to_z, of_z}
-use Rattle.fractions.specs.Rational.{decimal_value}
+use Rattle.exact_numbers.specs.Rational.{decimal_value}
 use Rattle.exact_numbers.specs.Values.{FitsDec}
 use Rattle.exact_numbers.proofs.Signs.{decimal_whole}
 use Rattle.certificate_judge.proofs.WholeDecimals.{signed_decimal, whole_fits}

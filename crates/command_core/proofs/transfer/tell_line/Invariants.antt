@@ -1,6 +1,6 @@
 use Rattle.std.proofs.Common.{length, take, ◌-◌, ◌≡◌, ◌≤◌}
 use Rattle.std.specs.Io.KnownBytes.{Appends}
-use Rattle.desk.specs.Desk.{OnlyMessages}
+use Rattle.text_base.specs.Desk.{OnlyMessages}
 use Rattle.command_core.proofs.transfer.tell_line.Given as goal
 
 abbrev pub invariant-loop-done : goal.invariant-loop-done

@@ -1,7 +1,7 @@
 use Rattle.std.proofs.Common.{take, ◌≡◌}
 use Rattle.std.specs.List.{flat_map}
 use Rattle.std.specs.Io.KnownBytes.{Appends}
-use Rattle.desk.specs.Desk.{OnlyOutput}
+use Rattle.text_base.specs.Desk.{OnlyOutput}
 use Rattle.command_core.proofs.transfer.write_pieces.Given as goal
 
 abbrev pub invariant-loop-piece : goal.invariant-loop-piece

@@ -11,4 +11,6 @@ returns-clause-reads g c = c.open.ensures.reads_so (record { rows = c.args.rows;
 pub returns-clause-certificate : goal.returns-clause-certificate
 returns-clause-certificate g c =
     let s : Setting = record { rows = c.args.rows; kinds = c.args.kinds.items } in
-    known_of itself (IsCertificateText s) (IsCertificateRefused s c.args.number) (IsCertificateFor s) (certificate_known s) c.args.name.now _ _ c.open.result (c.open.ensures.reads_so s c.in_ok-grammar.ensures.setting)
+    known_of itself (IsCertificateText s) (IsCertificateRefused s c.args.number) (IsCertificateFor s)
+    (certificate_known s) c.args.name.now _ _ c.open.result
+    (c.open.ensures.reads_so s c.in_ok-grammar.ensures.setting)

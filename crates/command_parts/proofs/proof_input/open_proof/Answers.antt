@@ -1,8 +1,8 @@
 use Rattle.std.proofs.Common.{◌∙◌}
-use Rattle.file_certificates.specs.Files.{IsProofIn}
-use Rattle.file_certificates.specs.Setting.{setting_of}
-use Rattle.proof_text.specs.Reader.{IsProofText}
-use Rattle.proof_text.proofs.TextTrees.{text_is_proof}
+use Rattle.problems.specs.Files.{IsProofIn}
+use Rattle.problems.specs.NlSetting.{setting_of}
+use Rattle.branch_proof.specs.Reader.{IsProofText}
+use Rattle.branch_proof.proofs.TextTrees.{text_is_proof}
 use Rattle.command_parts.specs.Refusal.{IsProofRefused}
 use Rattle.command_core.specs.SeveralFiles.{itself}
 use Rattle.command_parts.proofs.Opened.{known_of, setting_in}

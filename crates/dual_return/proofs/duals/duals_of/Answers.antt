@@ -10,7 +10,8 @@ returns-in_default-clause-fault c = λ f same scaled.
 
 pub constraints-preserved : goal.constraints-preserved
 constraints-preserved c =
-    first-more c.args.answer.now c.args.scaled.now c.constraints.duals c.push.new.self c.constraints.con c.row.result c.factor.result c.in-Some.value c.constraints.invariant c.row.ensures c.factor.ensures
+    first-more c.args.answer.now c.args.scaled.now c.constraints.duals c.push.new.self c.constraints.con c.row.result
+    c.factor.result c.in-Some.value c.constraints.invariant c.row.ensures c.factor.ensures
     (subst (λ (b : Bool). DualBy c.row.result c.factor.result (sign_by b) (Some c.in-Some.value)) c.is_turned-turned.ensures c.in-Some.ensures) c.in_ok-push.ensures.ok
 
 pub returns-clause-duals : goal.returns-clause-duals

@@ -20,7 +20,9 @@ loop-form-preserved c =
     record {
       so = subst (AreRowsSoFar bodies sides c.push.new.self.items) (sym one_more)
           (row_copied bodies sides rows c.push.new.self.items i c.in-Some.form side row c.loop-form.invariant.so next.there next.is within at c.in_ok-body.ensures.copy refl pushed);
-      within = row_within (length c.args._bounds.now) bodies rows c.push.new.self.items i c.in-Some.form row c.loop-form.invariant.within c.requires.within next.there next.is c.in_ok-body.ensures.copy c.in_ok-body.ensures.ascending pushed;
+      within = row_within (length c.args._bounds.now) bodies rows c.push.new.self.items i c.in-Some.form row
+          c.loop-form.invariant.within c.requires.within next.there next.is c.in_ok-body.ensures.copy
+          c.in_ok-body.ensures.ascending pushed;
       left = next.left ∙ ap (λ k. drop k bodies) (sym one_more);
     }
 

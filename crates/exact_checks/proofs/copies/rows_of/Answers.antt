@@ -12,8 +12,12 @@ loop-i-preserved c =
     let at = subst (λ ss. c.index-sides-i.result ≡ get_or ss c.loop-i.i c.index-sides-i.result) c.sides-sides.ensures c.index-sides-i.is in
     let row : Row = record { body = c.in_ok-body.body; side = c.index-sides-i.result } in
     record {
-      so = row_copied c.args.linear.now.bodies c.args.linear.now.sides c.loop-i.rows.items c.push.new.self.items c.loop-i.i c.index-bodies-i.result c.index-sides-i.result row c.loop-i.invariant.so l is m at c.in_ok-body.ensures.copy refl c.in_ok-push.ensures.items;
-      within = row_within (length c.args.linear.now.bounds) c.args.linear.now.bodies c.loop-i.rows.items c.push.new.self.items c.loop-i.i c.index-bodies-i.result row c.loop-i.invariant.within c.requires.bodies l is c.in_ok-body.ensures.copy c.in_ok-body.ensures.ascending c.in_ok-push.ensures.items;
+      so = row_copied c.args.linear.now.bodies c.args.linear.now.sides c.loop-i.rows.items c.push.new.self.items
+          c.loop-i.i c.index-bodies-i.result c.index-sides-i.result row c.loop-i.invariant.so l is m at
+          c.in_ok-body.ensures.copy refl c.in_ok-push.ensures.items;
+      within = row_within (length c.args.linear.now.bounds) c.args.linear.now.bodies c.loop-i.rows.items
+          c.push.new.self.items c.loop-i.i c.index-bodies-i.result row c.loop-i.invariant.within c.requires.bodies l is
+          c.in_ok-body.ensures.copy c.in_ok-body.ensures.ascending c.in_ok-push.ensures.items;
     }
 
 pub returns-clause-rows : goal.returns-clause-rows

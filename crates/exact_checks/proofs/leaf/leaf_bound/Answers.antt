@@ -1,6 +1,6 @@
 use Rattle.std.proofs.Common.{◌≡◌, false, subst, sym}
-use Rattle.program_meaning.specs.Linear.{row_count}
-use Rattle.duality.specs.Verdict.{dual_bound}
+use Rattle.linear_program.specs.Linear.{row_count}
+use Rattle.certificates.specs.Verdict.{dual_bound}
 use Rattle.exact_numbers.specs.Values.{frac_value}
 use Rattle.linear_program.specs.Numbers.{spread}
 use Rattle.exact_checks.specs.Answers.{bound_answer_of}
@@ -15,4 +15,6 @@ pub returns-in-Zero-clause-exact : goal.returns-in-Zero-clause-exact
 returns-in-Zero-clause-exact c =
     if_put c.bound_of_goal-in-Zero.result c.bound_of_goal-in-Zero.ensures.exact (λ v q f over.
     subst (λ g. bound_answer_of v ≡ dual_bound (asked g f) (bounds_in c.args.lo.now c.args.hi.now) (spread (row_count f) c.args.pairs.now)) (sym c.in-Zero.is)
-    (q (asked Zero f) (rows_asked c.args.program.now c.args.planes.now f Zero over) (subst (λ ts. IsGoal false (frac_value c.zero.result) ts (asked Zero f)) (sym c.new-none.ensures) (zero_goal f (frac_value c.zero.result) c.zero.ensures))))
+    (q (asked Zero f) (rows_asked c.args.program.now c.args.planes.now f Zero over)
+    (subst (λ ts. IsGoal false (frac_value c.zero.result) ts (asked Zero f)) (sym c.new-none.ensures)
+    (zero_goal f (frac_value c.zero.result) c.zero.ensures))))

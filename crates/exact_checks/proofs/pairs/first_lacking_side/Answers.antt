@@ -13,13 +13,15 @@ row_at-row-requires c =
 
 pub returns-then-not-has_row_side : goal.returns-then-not-has_row_side
 returns-then-not-has_row_side c =
-    sides_stop c.args.program.now c.args.planes.now c.args.maximise c.args.pairs.now c.loop-pair.pair-index c.loop-pair.invariant c.pair-item.result c.loop-pair-test.true c.pair-item.is c.row_at-row.result.now
+    sides_stop c.args.program.now c.args.planes.now c.args.maximise c.args.pairs.now c.loop-pair.pair-index
+    c.loop-pair.invariant c.pair-item.result c.loop-pair-test.true c.pair-item.is c.row_at-row.result.now
     (subst (λ rs. slice_get (rs ++ c.args.planes.now) c.pair-item.result.0 ≡ Some c.row_at-row.result.now) c.deref-rows.ensures.value c.row_at-row.ensures)
     false c.if-not-has_row_side.ensures refl
 
 pub loop-pair-preserved : goal.loop-pair-preserved
 loop-pair-preserved c =
-    sides_go_on c.args.program.now c.args.planes.now c.args.maximise c.args.pairs.now c.loop-pair.pair-index c.loop-pair.invariant c.pair-item.result c.loop-pair-test.true c.pair-item.is c.row_at-row.result.now
+    sides_go_on c.args.program.now c.args.planes.now c.args.maximise c.args.pairs.now c.loop-pair.pair-index
+    c.loop-pair.invariant c.pair-item.result c.loop-pair-test.true c.pair-item.is c.row_at-row.result.now
     (subst (λ rs. slice_get (rs ++ c.args.planes.now) c.pair-item.result.0 ≡ Some c.row_at-row.result.now) c.deref-rows.ensures.value c.row_at-row.ensures)
     true c.if-not-has_row_side.ensures refl
 

@@ -16,7 +16,12 @@ returns-then-size-gt-MAX_SIZE c = not_fits _ _ (pair_is _ _ c.requires) (λ fits
 
 pub invariant_of-result : goal.invariant_of-result
 invariant_of-result c =
-    record { spelled = is_frac c.args.negative c.args.num c.args.den c.gcd-common.result (reduced_by _ _ _ c.requires c.gcd-common.ensures.greatest) _ (to_z-of_z {w = w128} (record { sfits = c.with_sign.type_inv }) ∙ c.with_sign.ensures) (omega arith) (omega arith) }
+    record {
+      spelled = is_frac c.args.negative c.args.num c.args.den c.gcd-common.result
+          (reduced_by _ _ _ c.requires c.gcd-common.ensures.greatest) _
+          (to_z-of_z {w = w128} (record { sfits = c.with_sign.type_inv }) ∙ c.with_sign.ensures) (omega arith)
+          (omega arith);
+    }
 
 pub returns : goal.returns
 returns c =

@@ -22,7 +22,9 @@ record Digit (text : List ℕ) (i number most : ℕ) : Type 0 where
   byte : (48 ≤ get_or text i 0) × (get_or text i 0 ≤ 57) × (digit_value (get_or text i 0) ≡ get_or text i 0 - 48)
   room : (number + 1) * 10 ≤ 10 ^ 18
 
-digit_here : (text : List ℕ) (i number most end : ℕ) (t : Bool) → end ≡ min (length text) most → i < end → t ≡ is_ascii_digit (get_or text i 0) → t ≡ true → (number + 1) * 10 ^ (most - i) ≤ 10 ^ 18 → Digit text i number most
+digit_here : (text : List ℕ) (i number most end : ℕ) (t : Bool) → end ≡ min (length text) most → i < end
+    → t ≡ is_ascii_digit (get_or text i 0) → t ≡ true → (number + 1) * 10 ^ (most - i) ≤ 10 ^ 18
+    → Digit text i number most
 digit_here text i number most end t is more value ascii room =
     let digit = digit_from (get_or text i 0) (sym ascii ∙ value) in
     let few : i < most = omega (arith, is) in
@@ -36,11 +38,17 @@ digit_here text i number most end t is more value ascii room =
 
 pub overflow_mul-number : goal.overflow_mul-number
 overflow_mul-number c =
-    omega (arith, (digit_here c.args.text.now c.digits.len c.digits.number c.args.most _ _ c.min-end.ensures c.digits-test.true c.is_ascii_digit.ensures.value c.if-not-is_ascii_digit.false c.digits.invariant.small).room)
+    omega (
+      arith,
+      (digit_here c.args.text.now c.digits.len c.digits.number c.args.most _ _ c.min-end.ensures
+          c.digits-test.true c.is_ascii_digit.ensures.value c.if-not-is_ascii_digit.false
+          c.digits.invariant.small).room,
+    )
 
 pub overflow_add-number : goal.overflow_add-number
 overflow_add-number c =
-    let d = digit_here c.args.text.now c.digits.len c.digits.number c.args.most _ _ c.min-end.ensures c.digits-test.true c.is_ascii_digit.ensures.value c.if-not-is_ascii_digit.false c.digits.invariant.small in
+    let d = digit_here c.args.text.now c.digits.len c.digits.number c.args.most _ _ c.min-end.ensures c.digits-test.true
+    c.is_ascii_digit.ensures.value c.if-not-is_ascii_digit.false c.digits.invariant.small in
     omega (arith, d.room, d.byte)
 
 pub digits-preserved : goal.digits-preserved

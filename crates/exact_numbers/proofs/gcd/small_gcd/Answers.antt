@@ -9,7 +9,12 @@ pub loop-y-preserved : goal.loop-y-preserved
 loop-y-preserved c g h = c.loop-y.invariant g (IsGcd-from_mod _ _ g h)
 
 pub returns-then-a-eq1-clause-greatest : goal.returns-then-a-eq1-clause-greatest
-returns-then-a-eq1-clause-greatest c = one_gcd c.args.a c.args.b (elim c.then-a-eq1.branch [ then-a-eq1-via-then-a-eq1 w ↦ inl w.if-a-eq1.true | then-a-eq1-via-else-a-eq1+then-b-eq1 w ↦ inr w.if-b-eq1.true ])
+returns-then-a-eq1-clause-greatest c = one_gcd c.args.a c.args.b
+    (elim c.then-a-eq1.branch [
+      | then-a-eq1-via-then-a-eq1 w ↦ inl w.if-a-eq1.true
+      | then-a-eq1-via-else-a-eq1+then-b-eq1 w
+          ↦ inr w.if-b-eq1.true
+    ])
 
 pub returns-then-y-eq0-clause-greatest : goal.returns-then-y-eq0-clause-greatest
 returns-then-y-eq0-clause-greatest c = c.loop-y.invariant _ (IsGcd-from_zero _ _ c.if-y-eq0.true)

@@ -8,7 +8,7 @@ use Rattle.std.proofs.lemmas.Int.{ints}
 use Rattle.exact_numbers.proofs.Decimals.{capped_some, capped_none}
 use Rattle.exact_numbers.proofs.Texts.{Parts, parts_of, dec_text_from, dec_value_is, digits_small}
 use Rattle.exact_numbers.specs.Values.{dec_value, FitsDec}
-use Rattle.fractions.specs.Rational.{ℚ, decimal_value}
+use Rattle.exact_numbers.specs.Rational.{ℚ, decimal_value}
 use Rattle.exact_numbers.specs.declared.dec.Dec.{Dec}
 use Rattle.exact_numbers.proofs.Bridge.{no_dec, not_dec, dec_same, same_dec_value, decimal_is}
 use Rattle.exact_numbers.proofs.read.read_any.Goals as goal
@@ -47,22 +47,34 @@ module _ (text whole fraction exponent : List ℕ) (negative : Bool) (x : ℤ) (
   read_some : (d : Dec) → dec_value d ≡ asked → IsDecText text × (dec_value d ≡ text_value text)
   read_some d h =
       let read : dec_value d ≡ decimal_value (signed negative n) (x -ℤ pos (length fraction)) = h ∙ ap (λ y. decimal_value (signed negative n) (y -ℤ pos (length fraction))) plain in
-      let same = dec_same d.m d.e _ _ (decimal_is _ _) read in
-      (is_text, same_dec_value d.m d.e _ _ (decimal_is _ _) (capped_some negative n (length whole + length fraction) (length fraction) x (exponent_value exponent) (digits_small whole fraction dw df) few few_after e.1 d.m d.e d.spelled same) ∙ value)
+      let same = dec_same d.m d.e _ _ (decimal_is _ _) read in (
+        is_text,
+        same_dec_value d.m d.e _ _ (decimal_is _ _)
+            (capped_some negative n (length whole + length fraction) (length fraction) x (exponent_value exponent)
+            (digits_small whole fraction dw df) few few_after e.1 d.m d.e d.spelled same) ∙ value,
+      )
 
   read_none : (FitsDec asked → ⊥) → IsDecText text × (FitsDec (text_value text) → ⊥)
   read_none h =
-      let none : FitsDec (decimal_value (signed negative n) (x -ℤ pos (length fraction))) → ⊥ = subst (λ y. FitsDec (decimal_value (signed negative n) (y -ℤ pos (length fraction))) → ⊥) plain h in
-      (is_text, subst (λ v. FitsDec v → ⊥) value (not_dec _ _ (decimal_is _ _) (capped_none negative n (length whole + length fraction) (length fraction) x (exponent_value exponent) (digits_small whole fraction dw df) few few_after e.1 (no_dec _ _ (decimal_is _ _) none))))
+      let none : FitsDec (decimal_value (signed negative n) (x -ℤ pos (length fraction))) → ⊥ = subst (λ y. FitsDec (decimal_value (signed negative n) (y -ℤ pos (length fraction))) → ⊥) plain h in (
+        is_text,
+        subst (λ v. FitsDec v → ⊥) value (not_dec _ _ (decimal_is _ _)
+            (capped_none negative n (length whole + length fraction) (length fraction) x (exponent_value exponent)
+            (digits_small whole fraction dw df) few few_after e.1 (no_dec _ _ (decimal_is _ _) none))),
+      )
 
 pub returns-in-Some-dec_of_digits : goal.returns-in-Some-dec_of_digits
 returns-in-Some-dec_of_digits c =
-    let p = parts_of c.args.text.now _ _ _ _ c.without_sign-body.ensures c.mark_place-mark.ensures.place c.point_place-point.ensures.place c.mark_place-mark.ensures.within c.point_place-point.ensures.within c.after_place-fraction.ensures in
+    let p = parts_of c.args.text.now _ _ _ _ c.without_sign-body.ensures c.mark_place-mark.ensures.place
+    c.point_place-point.ensures.place c.mark_place-mark.ensures.within c.point_place-point.ensures.within
+    c.after_place-fraction.ensures in
     read_some _ _ _ _ _ _ p c.has_minus.ensures (omega arith) (search rules) (search rules) (omega arith) c.in-Some.ensures c.in-Some-dec_of_digits.number c.in-Some-dec_of_digits.ensures
 
 pub returns-in-None : goal.returns-in-None
 returns-in-None c =
-    let p = parts_of c.args.text.now _ _ _ _ c.without_sign-body.ensures c.mark_place-mark.ensures.place c.point_place-point.ensures.place c.mark_place-mark.ensures.within c.point_place-point.ensures.within c.after_place-fraction.ensures in
+    let p = parts_of c.args.text.now _ _ _ _ c.without_sign-body.ensures c.mark_place-mark.ensures.place
+    c.point_place-point.ensures.place c.mark_place-mark.ensures.within c.point_place-point.ensures.within
+    c.after_place-fraction.ensures in
     read_none _ _ _ _ _ _ p c.has_minus.ensures (omega arith) (search rules) (search rules) (omega arith) c.in-Some.ensures c.in-None.ensures
 
 pub returns-in_default : goal.returns-in_default

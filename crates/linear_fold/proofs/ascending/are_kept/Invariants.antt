@@ -1,6 +1,6 @@
 use Rattle.std.proofs.Common.{◌≡◌, All, drop, true}
 use Rattle.exact_numbers.specs.Values.{dec_value}
-use Rattle.fractions.specs.Fits.{fits}
+use Rattle.exact_numbers.specs.Fits.{fits}
 use Rattle.linear_fold.proofs.ascending.are_kept.Given as goal
 
 abbrev pub invariant-loop-factor : goal.invariant-loop-factor

@@ -1,5 +1,5 @@
 use Rattle.std.proofs.Common.{◌↔◌, drop}
-use Rattle.file_meaning.specs.Expressions.{linear_terms}
+use Rattle.nl_model.specs.Expressions.{linear_terms}
 use Rattle.linear_fold.specs.InsideLinearTerms.{AreZeroTerms}
 use Rattle.linear_fold.proofs.ascending.are_zero.Given as goal
 

@@ -1,5 +1,5 @@
 use Rattle.std.proofs.Common.{ap, subst}
-use Rattle.file_meaning.specs.Expressions.{linear_terms}
+use Rattle.nl_model.specs.Expressions.{linear_terms}
 use Rattle.linear_program.specs.Forms.{form_line}
 use Rattle.linear_fold.specs.InsideFolds.{ComesToTerms}
 use Rattle.linear_fold.specs.InsideLinearTerms.{AreStrictlyAscending}

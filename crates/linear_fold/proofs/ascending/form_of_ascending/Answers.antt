@@ -1,7 +1,7 @@
 use Rattle.std.proofs.Common.{◌≡◌, ◌∙◌, ap, sym, subst}
 use Rattle.exact_numbers.specs.Values.{frac_value}
-use Rattle.file_meaning.specs.Expressions.{linear_terms}
-use Rattle.program_meaning.specs.Lines.{Line, constant_line}
+use Rattle.nl_model.specs.Expressions.{linear_terms}
+use Rattle.linear_program.specs.Lines.{Line, constant_line}
 use Rattle.linear_program.specs.Coefs.{coef_in}
 use Rattle.linear_program.specs.Decimals.{AreDecimals, fraction_terms}
 use Rattle.linear_program.specs.Forms.{form_line}

@@ -1,7 +1,7 @@
 use Rattle.std.proofs.Common.{◌≡◌, ◌∙◌, ◌+◌, ◌++◌, ◌∷◌, [], List, sym, subst, arith, drop, take, true}
 use Rattle.exact_numbers.specs.Values.{dec_value, frac_value}
-use Rattle.fractions.specs.Fits.{fits}
-use Rattle.file_meaning.specs.Expressions.{linear_terms}
+use Rattle.exact_numbers.specs.Fits.{fits}
+use Rattle.nl_model.specs.Expressions.{linear_terms}
 use Rattle.linear_program.specs.Coefs.{Term}
 use Rattle.linear_program.specs.Decimals.{frac_of, fraction_terms}
 use Rattle.linear_program.proofs.DecimalLemmas.{AllFit, fit_more, frac_of-value, one_fraction_more}
@@ -22,10 +22,17 @@ loop-index-preserved g c =
     let at = term_at all i t c.loop-index-test.true c.index-terms-index.is in
     let fit : fits (dec_value t.1) ≡ true = sym c.has_fraction.ensures ∙ c.if-not-has_fraction.false in
     let place : c.args.first + i + 1 ≡ c.args.first + (i + 1) = omega arith in
-    let left : IsListed a c.args.first whole k out (c.args.first + i) (record { variable = t.0; factor = dec_value t.1 } ∷ rest) = subst (λ ts. IsListed a c.args.first whole k out (c.args.first + i) (linear_terms ts)) at c.loop-index.invariant.listed in
-    let more : IsListed a c.args.first whole k (out ++ (t.0, frac_of t.1) ∷ []) (c.args.first + i + 1) rest = one_listed a c.args.first whole k out (c.args.first + i) (record { variable = t.0; factor = dec_value t.1 }) rest left (frac_of t.1) fit (frac_of-value t.1 fit) in
+    let left : IsListed a c.args.first whole k out (c.args.first + i)
+    (record { variable = t.0; factor = dec_value t.1 } ∷ rest) =
+    subst (λ ts. IsListed a c.args.first whole k out (c.args.first + i) (linear_terms ts)) at
+    c.loop-index.invariant.listed in
+    let more : IsListed a c.args.first whole k (out ++ (t.0, frac_of t.1) ∷ []) (c.args.first + i + 1) rest =
+    one_listed a c.args.first whole k out (c.args.first + i) (record { variable = t.0; factor = dec_value t.1 }) rest
+    left (frac_of t.1) fit (frac_of-value t.1 fit) in
     record {
-      listed = subst (λ j. IsListed a c.args.first whole k (fraction_terms (take (i + 1) all)) j rest) place (subst (λ (ps : List Term). IsListed a c.args.first whole k ps (c.args.first + i + 1) rest) (sym (one_fraction_more all i t c.loop-index-test.true c.index-terms-index.is)) more);
+      listed = subst (λ j. IsListed a c.args.first whole k (fraction_terms (take (i + 1) all)) j rest) place
+          (subst (λ (ps : List Term). IsListed a c.args.first whole k ps (c.args.first + i + 1) rest)
+          (sym (one_fraction_more all i t c.loop-index-test.true c.index-terms-index.is)) more);
       fit = fit_more all (drop (i + 1) all) i t (AllFit all) at fit c.loop-index.invariant.fit;
       counted = let h = c.loop-index.invariant.counted in let k = c.tick-in-loop-index.ensures in omega arith;
     }

@@ -10,66 +10,95 @@ pub loop-con-preserved : goal.loop-con-preserved
 loop-con-preserved g c =
     let f = c.args.file.now in
     let i = c.loop-con.con in
-    let below : i < f.counts.n_con = (let h = c.loop-con-test.true in let same : c.counts-counts.result.now.n_con ≡ f.counts.n_con = ap (λ x. x.n_con) (c.counts-counts.ensures.value ∙ c.header.ensures.counts) in omega arith) in
+    let below : i < f.counts.n_con = (let h = c.loop-con-test.true in
+    let same : c.counts-counts.result.now.n_con ≡ f.counts.n_con =
+    ap (λ x. x.n_con) (c.counts-counts.ensures.value ∙ c.header.ensures.counts) in omega arith) in
     let pushed = c.in-Ok-push.ensures.items in
     let inv = c.loop-con.invariant in
     record {
       folder_now = c.in-Ok.ensures.folder;
       left = left_more f c.args.folder.now.count (λ j. owned_at f (OfConstraint j)) f.counts.n_con c.loop-con.folder.count c.fold_body.new.folder.count i below inv.left c.in-Ok.ensures.folded;
-      bodies_are = bodies_more f c.requires.file i below c.loop-con.held.items c.push-in-loop-con.new.self.items c.loop-con.forms.items c.push.new.self.items c.in-Ok.body.held c.in-Ok.body.form inv.number inv.marks c.in-Ok-push-2.ensures.items pushed inv.bodies_are c.in-Ok.ensures.form;
-      still = still_more f c.requires.file i below c.loop-con.held.items c.push-in-loop-con.new.self.items c.loop-con.forms.items c.push.new.self.items c.in-Ok.body.held c.in-Ok.body.form inv.number inv.marks c.in-Ok-push-2.ensures.items pushed inv.still c.in-Ok.ensures.form;
+      bodies_are = bodies_more f c.requires.file i below c.loop-con.held.items c.push-in-loop-con.new.self.items
+          c.loop-con.forms.items c.push.new.self.items c.in-Ok.body.held c.in-Ok.body.form inv.number inv.marks
+          c.in-Ok-push-2.ensures.items pushed inv.bodies_are c.in-Ok.ensures.form;
+      still = still_more f c.requires.file i below c.loop-con.held.items c.push-in-loop-con.new.self.items
+          c.loop-con.forms.items c.push.new.self.items c.in-Ok.body.held c.in-Ok.body.form inv.number inv.marks
+          c.in-Ok-push-2.ensures.items pushed inv.still c.in-Ok.ensures.form;
       number = ap length pushed ∙ length-append c.loop-con.forms.items (c.in-Ok.body.form ∷ []) ∙ ap (λ n. n + 1) inv.number;
       marks = ap length c.in-Ok-push-2.ensures.items ∙ length-append c.loop-con.held.items (c.in-Ok.body.held ∷ []) ∙ ap (λ n. n + 1) inv.marks;
-      as_they_are = same_more f c.requires.file i below c.loop-con.held.items c.push-in-loop-con.new.self.items c.loop-con.forms.items c.push.new.self.items c.in-Ok.body.held c.in-Ok.body.form inv.number inv.marks c.in-Ok-push-2.ensures.items pushed c.args.hold inv.as_they_are c.in-Ok.ensures.hold;
+      as_they_are = same_more f c.requires.file i below c.loop-con.held.items c.push-in-loop-con.new.self.items
+          c.loop-con.forms.items c.push.new.self.items c.in-Ok.body.held c.in-Ok.body.form inv.number inv.marks
+          c.in-Ok-push-2.ensures.items pushed c.args.hold inv.as_they_are c.in-Ok.ensures.hold;
       counted =
-          (let more = count_more f c.requires.file i below c.loop-con.held.items c.push-in-loop-con.new.self.items c.loop-con.forms.items c.push.new.self.items c.in-Ok.body.held c.in-Ok.body.form inv.number inv.marks c.in-Ok-push-2.ensures.items pushed in
+          (let more = count_more f c.requires.file i below c.loop-con.held.items c.push-in-loop-con.new.self.items
+          c.loop-con.forms.items c.push.new.self.items c.in-Ok.body.held c.in-Ok.body.form inv.number inv.marks
+          c.in-Ok-push-2.ensures.items pushed in
           let old = inv.counted in
           let new = c.in-Ok.ensures.count in
           omega arith);
       above = (let h = inv.above in let k = c.in-Ok.ensures.above in omega arith);
       below =
           subst (λ m. c.fold_body.new.steps ≤ c.args.steps.now + 2 * (f.counts.n_var + 1) * m) (sym (body_size f c.requires.file i below))
-          (steps_more f.counts.n_var c.args.steps.now c.loop-con.steps c.fold_body.new.steps (bodies_size (take i f.bodies) (take i f.terms)) (owner_size f (OfConstraint i)) inv.below c.in-Ok.ensures.below);
+          (steps_more f.counts.n_var c.args.steps.now c.loop-con.steps c.fold_body.new.steps
+          (bodies_size (take i f.bodies) (take i f.terms)) (owner_size f (OfConstraint i)) inv.below
+          c.in-Ok.ensures.below);
     }
 
 pub returns-in-Err-clause-folded : goal.returns-in-Err-clause-folded
 returns-in-Err-clause-folded g c =
     let f = c.args.file.now in
     let i = c.loop-con.con in
-    let below : i < f.counts.n_con = (let h = c.loop-con-test.true in let same : c.counts-counts.result.now.n_con ≡ f.counts.n_con = ap (λ x. x.n_con) (c.counts-counts.ensures.value ∙ c.header.ensures.counts) in omega arith) in
+    let below : i < f.counts.n_con = (let h = c.loop-con-test.true in
+    let same : c.counts-counts.result.now.n_con ≡ f.counts.n_con =
+    ap (λ x. x.n_con) (c.counts-counts.ensures.value ∙ c.header.ensures.counts) in omega arith) in
     left_stop f c.args.folder.now.count (λ j. owned_at f (OfConstraint j)) f.counts.n_con c.loop-con.folder.count i c.in-Err.stop below c.loop-con.invariant.left c.in-Err.ensures.folded
 
 pub returns-in-Err-clause-below : goal.returns-in-Err-clause-below
 returns-in-Err-clause-below g c =
     let f = c.args.file.now in
     let i = c.loop-con.con in
-    let below : i < f.counts.n_con = (let h = c.loop-con-test.true in let same : c.counts-counts.result.now.n_con ≡ f.counts.n_con = ap (λ x. x.n_con) (c.counts-counts.ensures.value ∙ c.header.ensures.counts) in omega arith) in
+    let below : i < f.counts.n_con = (let h = c.loop-con-test.true in
+    let same : c.counts-counts.result.now.n_con ≡ f.counts.n_con =
+    ap (λ x. x.n_con) (c.counts-counts.ensures.value ∙ c.header.ensures.counts) in omega arith) in
     steps_within f.counts.n_var c.args.steps.now c.fold_body.new.steps (bodies_size (take (i + 1) f.bodies) (take (i + 1) f.terms)) (bodies_size f.bodies f.terms) (bodies_size_le f (i + 1))
     (subst (λ m. c.fold_body.new.steps ≤ c.args.steps.now + 2 * (f.counts.n_var + 1) * m) (sym (body_size f c.requires.file i below))
-    (steps_more f.counts.n_var c.args.steps.now c.loop-con.steps c.fold_body.new.steps (bodies_size (take i f.bodies) (take i f.terms)) (owner_size f (OfConstraint i)) c.loop-con.invariant.below c.in-Err.ensures.below))
+    (steps_more f.counts.n_var c.args.steps.now c.loop-con.steps c.fold_body.new.steps
+    (bodies_size (take i f.bodies) (take i f.terms)) (owner_size f (OfConstraint i)) c.loop-con.invariant.below
+    c.in-Err.ensures.below))
 
 pub returns-in_default-clause-below : goal.returns-in_default-clause-below
 returns-in_default-clause-below g c =
     let f = c.args.file.now in
     let i = c.loop-con.con in
-    let below : i < f.counts.n_con = (let h = c.loop-con-test.true in let same : c.counts-counts.result.now.n_con ≡ f.counts.n_con = ap (λ x. x.n_con) (c.counts-counts.ensures.value ∙ c.header.ensures.counts) in omega arith) in
+    let below : i < f.counts.n_con = (let h = c.loop-con-test.true in
+    let same : c.counts-counts.result.now.n_con ≡ f.counts.n_con =
+    ap (λ x. x.n_con) (c.counts-counts.ensures.value ∙ c.header.ensures.counts) in omega arith) in
     steps_within f.counts.n_var c.args.steps.now c.fold_body.new.steps (bodies_size (take (i + 1) f.bodies) (take (i + 1) f.terms)) (bodies_size f.bodies f.terms) (bodies_size_le f (i + 1))
     (subst (λ m. c.fold_body.new.steps ≤ c.args.steps.now + 2 * (f.counts.n_var + 1) * m) (sym (body_size f c.requires.file i below))
-    (steps_more f.counts.n_var c.args.steps.now c.loop-con.steps c.fold_body.new.steps (bodies_size (take i f.bodies) (take i f.terms)) (owner_size f (OfConstraint i)) c.loop-con.invariant.below c.in-Ok.ensures.below))
+    (steps_more f.counts.n_var c.args.steps.now c.loop-con.steps c.fold_body.new.steps
+    (bodies_size (take i f.bodies) (take i f.terms)) (owner_size f (OfConstraint i)) c.loop-con.invariant.below
+    c.in-Ok.ensures.below))
 
 pub returns-in_default-push-clause-below : goal.returns-in_default-push-clause-below
 returns-in_default-push-clause-below g c =
     let f = c.args.file.now in
     let i = c.loop-con.con in
-    let below : i < f.counts.n_con = (let h = c.loop-con-test.true in let same : c.counts-counts.result.now.n_con ≡ f.counts.n_con = ap (λ x. x.n_con) (c.counts-counts.ensures.value ∙ c.header.ensures.counts) in omega arith) in
+    let below : i < f.counts.n_con = (let h = c.loop-con-test.true in
+    let same : c.counts-counts.result.now.n_con ≡ f.counts.n_con =
+    ap (λ x. x.n_con) (c.counts-counts.ensures.value ∙ c.header.ensures.counts) in omega arith) in
     steps_within f.counts.n_var c.args.steps.now c.fold_body.new.steps (bodies_size (take (i + 1) f.bodies) (take (i + 1) f.terms)) (bodies_size f.bodies f.terms) (bodies_size_le f (i + 1))
     (subst (λ m. c.fold_body.new.steps ≤ c.args.steps.now + 2 * (f.counts.n_var + 1) * m) (sym (body_size f c.requires.file i below))
-    (steps_more f.counts.n_var c.args.steps.now c.loop-con.steps c.fold_body.new.steps (bodies_size (take i f.bodies) (take i f.terms)) (owner_size f (OfConstraint i)) c.loop-con.invariant.below c.in-Ok.ensures.below))
+    (steps_more f.counts.n_var c.args.steps.now c.loop-con.steps c.fold_body.new.steps
+    (bodies_size (take i f.bodies) (take i f.terms)) (owner_size f (OfConstraint i)) c.loop-con.invariant.below
+    c.in-Ok.ensures.below))
 
 pub returns-clause-folded : goal.returns-clause-folded
 returns-clause-folded g c =
     let f = c.args.file.now in
-    left_end f c.args.folder.now.count (λ j. owned_at f (OfConstraint j)) f.counts.n_con c.loop-con.folder.count c.loop-con.con (let h = c.loop-con-test.false in let same : c.counts-counts.result.now.n_con ≡ f.counts.n_con = ap (λ x. x.n_con) (c.counts-counts.ensures.value ∙ c.header.ensures.counts) in omega arith) c.loop-con.invariant.left
+    left_end f c.args.folder.now.count (λ j. owned_at f (OfConstraint j)) f.counts.n_con c.loop-con.folder.count
+    c.loop-con.con (let h = c.loop-con-test.false in let same : c.counts-counts.result.now.n_con ≡ f.counts.n_con =
+    ap (λ x. x.n_con) (c.counts-counts.ensures.value ∙ c.header.ensures.counts) in omega arith)
+    c.loop-con.invariant.left
 
 pub loop-con-init : goal.loop-con-init
 loop-con-init g c =

@@ -24,8 +24,12 @@ loop-place-preserved c =
     let hs_at : drop p hs ≡ h ∷ drop (p + 1) hs = drop_more hs p h within ∙ ap (λ x. x ∷ drop (p + 1) hs) (sym c.is_held.ensures) in
     let tss_at : drop p tss ≡ c.in-Some.list ∷ into_iter_items c.next.new.self = sym inv.1 ∙ steps.0 in
     let bs_at : drop p bs ≡ get_or bs p any_form ∷ drop (p + 1) bs = drop_more bs p any_form some in (
-      one_completed hs tss bs c.loop-place.all.items p inv.0 h c.in-Some.list (get_or bs p any_form) (drop (p + 1) hs) (into_iter_items c.next.new.self) (drop (p + 1) bs) hs_at tss_at bs_at c.complete.new.forms.items any_form (c.complete.ensures any_form),
-      rest_of hs tss bs c.loop-place.all.items p inv.0 h c.in-Some.list (get_or bs p any_form) (drop (p + 1) hs) (into_iter_items c.next.new.self) (drop (p + 1) bs) hs_at tss_at bs_at tss c.in-Some.list (into_iter_items c.next.new.self) tss_at,
+      one_completed hs tss bs c.loop-place.all.items p inv.0 h c.in-Some.list (get_or bs p any_form) (drop (p + 1) hs)
+          (into_iter_items c.next.new.self) (drop (p + 1) bs) hs_at tss_at bs_at c.complete.new.forms.items any_form
+          (c.complete.ensures any_form),
+      rest_of hs tss bs c.loop-place.all.items p inv.0 h c.in-Some.list (get_or bs p any_form) (drop (p + 1) hs)
+          (into_iter_items c.next.new.self) (drop (p + 1) bs) hs_at tss_at bs_at tss c.in-Some.list
+          (into_iter_items c.next.new.self) tss_at,
       omega (arith, inv.2, ap length steps.0, steps.1),
       ap length (c.complete.ensures any_form) ∙ set_length c.loop-place.all.items p _ ∙ inv.3,
     )

@@ -1,7 +1,7 @@
 use Rattle.std.proofs.Common.{◌∙◌, ap}
 use Rattle.linear_program.specs.Decimals.{fraction_terms}
 use Rattle.linear_program.specs.Forms.{kept_constant}
-use Rattle.program_meaning.specs.Lines.{Line}
+use Rattle.linear_program.specs.Lines.{Line}
 use Rattle.linear_fold.proofs.CompletionLemmas.{closed_is}
 use Rattle.linear_fold.proofs.completing.with_terms.Goals as goal
 

@@ -1,6 +1,6 @@
 use Rattle.std.proofs.Common.{◌∙◌, ap, Some}
 use Rattle.code_tables.specs.declared.class.OpClass.TheVariants.{Absolute}
-use Rattle.fractions.specs.Functions.{absolute_of}
+use Rattle.exact_numbers.specs.Functions.{absolute_of}
 use Rattle.linear_fold.specs.InsideOperates.{part_line}
 use Rattle.linear_fold.proofs.ConstantLemmas.{one_made}
 use Rattle.linear_fold.proofs.constants.absolute.Goals as goal

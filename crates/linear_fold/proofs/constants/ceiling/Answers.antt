@@ -1,7 +1,7 @@
 use Rattle.std.proofs.Common.{◌∙◌, ap, Some}
 use Rattle.code_tables.specs.declared.class.OpClass.TheVariants.{Ceiling}
-use Rattle.fractions.specs.Functions.{floor_of}
-use Rattle.fractions.specs.Rational.{neg_ℚ}
+use Rattle.exact_numbers.specs.Functions.{floor_of}
+use Rattle.exact_numbers.specs.Rational.{neg_ℚ}
 use Rattle.linear_fold.specs.InsideOperates.{part_line}
 use Rattle.linear_fold.proofs.ConstantLemmas.{ceiling_is, one_made}
 use Rattle.linear_fold.proofs.constants.ceiling.Goals as goal

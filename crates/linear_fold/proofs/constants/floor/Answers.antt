@@ -1,6 +1,6 @@
 use Rattle.std.proofs.Common.{◌∙◌, ap, Some}
 use Rattle.code_tables.specs.declared.class.OpClass.TheVariants.{Floor}
-use Rattle.fractions.specs.Functions.{floor_of}
+use Rattle.exact_numbers.specs.Functions.{floor_of}
 use Rattle.linear_fold.specs.InsideOperates.{part_line}
 use Rattle.linear_fold.proofs.ConstantLemmas.{one_made}
 use Rattle.linear_fold.proofs.constants.floor.Goals as goal

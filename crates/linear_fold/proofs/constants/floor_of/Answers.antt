@@ -1,6 +1,6 @@
 use Rattle.std.proofs.Common.{◌∙◌, ap₂, pos, negsuc, ◌/◌, ◌-◌, sym, subst, ◌<◌}
 use Rattle.exact_numbers.specs.Values.{frac_value}
-use Rattle.fractions.specs.Rational.{whole}
+use Rattle.exact_numbers.specs.Rational.{whole}
 use Rattle.linear_fold.proofs.ConstantLemmas.{floor_above, floor_under, is_above, some_size, top_under}
 use Rattle.linear_fold.proofs.constants.floor_of.Goals as goal
 

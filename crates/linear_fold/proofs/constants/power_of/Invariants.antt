@@ -1,6 +1,6 @@
 use Rattle.std.proofs.Common.{◌≡◌}
 use Rattle.exact_numbers.specs.Values.{frac_value}
-use Rattle.fractions.specs.Functions.{power_of}
+use Rattle.exact_numbers.specs.Functions.{power_of}
 use Rattle.linear_fold.proofs.constants.power_of.Given as goal
 
 abbrev pub invariant-loop : goal.invariant-loop

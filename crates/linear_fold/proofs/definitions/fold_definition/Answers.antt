@@ -26,13 +26,18 @@ returns-clause-folder g c =
       variables = h.variables;
       pad = h.pad;
       few = h.few;
-      slots = rw h.variables (definition_folded c.args.file.now c.requires.file c.args.index c.args.definition.now c.requires.at c.fold_owner.new.folder.slots.items c.in_ok-form.form h.slots c.in_ok-form.ensures.form);
+      slots = rw h.variables (definition_folded c.args.file.now c.requires.file c.args.index c.args.definition.now
+          c.requires.at c.fold_owner.new.folder.slots.items c.in_ok-form.form h.slots c.in_ok-form.ensures.form);
     }
 
 pub returns-clause-below : goal.returns-clause-below
 returns-clause-below g c =
-    subst (λ m. c.fold_owner.new.steps ≤ c.args.steps.now + 2 * (c.args.file.now.counts.n_var + 1) * m) (definition_owner c.args.file.now c.requires.file c.args.index c.args.definition.now c.requires.at) c.fold_owner.ensures.below
+    subst (λ m. c.fold_owner.new.steps ≤ c.args.steps.now + 2 * (c.args.file.now.counts.n_var + 1) * m)
+    (definition_owner c.args.file.now c.requires.file c.args.index c.args.definition.now c.requires.at)
+    c.fold_owner.ensures.below
 
 pub returns-in_err-form-clause-below : goal.returns-in_err-form-clause-below
 returns-in_err-form-clause-below g c =
-    subst (λ m. c.fold_owner.new.steps ≤ c.args.steps.now + 2 * (c.args.file.now.counts.n_var + 1) * m) (definition_owner c.args.file.now c.requires.file c.args.index c.args.definition.now c.requires.at) c.fold_owner.ensures.below
+    subst (λ m. c.fold_owner.new.steps ≤ c.args.steps.now + 2 * (c.args.file.now.counts.n_var + 1) * m)
+    (definition_owner c.args.file.now c.requires.file c.args.index c.args.definition.now c.requires.at)
+    c.fold_owner.ensures.below

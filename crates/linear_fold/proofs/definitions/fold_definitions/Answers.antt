@@ -1,6 +1,6 @@
 use Rattle.std.proofs.Common.{◌+◌, ◌<◌, ◌≤◌, ◌*◌, sym, subst, arith, length, take}
 use Rattle.std.proofs.lemmas.List.{take_all}
-use Rattle.nl_meaning.specs.Trees.{tree_size}
+use Rattle.nl_model.specs.Trees.{tree_size}
 use Rattle.nl_model.specs.declared.at.Owner.TheVariants.{Def as OfDefinition}
 use Rattle.linear_fold.specs.InsideOwnerFolds.{HasFolded, definitions_size, owned_at}
 use Rattle.linear_fold.proofs.BodyLemmas.{at_position, definition_size, definitions_size_le, left_end, left_more, left_stop, position_small, steps_more, steps_within}
@@ -24,11 +24,15 @@ loop-index-preserved g c =
     let at = at_position f.definitions c.defs-definition-items.result.now c.defs-definition-items.ensures i c.definition-item.result c.loop-index-test.true c.definition-item.is in
     record {
       folder_now = c.in-Ok.ensures.folder;
-      left = left_more f c.args.folder.now.count (λ j. owned_at f (OfDefinition j)) (length f.definitions) c.loop-index.folder.count c.fold_definition.new.folder.count i below c.loop-index.invariant.left c.in-Ok.ensures.folded;
+      left = left_more f c.args.folder.now.count (λ j. owned_at f (OfDefinition j)) (length f.definitions)
+          c.loop-index.folder.count c.fold_definition.new.folder.count i below c.loop-index.invariant.left
+          c.in-Ok.ensures.folded;
       above = (let h = c.loop-index.invariant.above in let k = c.in-Ok.ensures.above in omega arith);
       below =
           subst (λ m. c.fold_definition.new.steps ≤ c.args.steps.now + 2 * (f.counts.n_var + 1) * m) (sym (definition_size f c.requires.file i c.definition-item.result at))
-          (steps_more f.counts.n_var c.args.steps.now c.loop-index.steps c.fold_definition.new.steps (definitions_size (take i f.definitions)) (tree_size c.definition-item.result.tree + length c.definition-item.result.terms) c.loop-index.invariant.below c.in-Ok.ensures.below);
+          (steps_more f.counts.n_var c.args.steps.now c.loop-index.steps c.fold_definition.new.steps
+          (definitions_size (take i f.definitions)) (tree_size c.definition-item.result.tree
+          + length c.definition-item.result.terms) c.loop-index.invariant.below c.in-Ok.ensures.below);
     }
 
 pub returns-in-Err-clause-folded : goal.returns-in-Err-clause-folded
@@ -43,9 +47,13 @@ returns-in-Err-clause-below g c =
     let f = c.args.file.now in
     let i = c.loop-index.index in
     let at = at_position f.definitions c.defs-definition-items.result.now c.defs-definition-items.ensures i c.definition-item.result c.loop-index-test.true c.definition-item.is in
-    steps_within f.counts.n_var c.args.steps.now c.fold_definition.new.steps (definitions_size (take (i + 1) f.definitions)) (definitions_size f.definitions) (definitions_size_le f.definitions (i + 1))
+    steps_within f.counts.n_var c.args.steps.now c.fold_definition.new.steps
+    (definitions_size (take (i + 1) f.definitions)) (definitions_size f.definitions)
+    (definitions_size_le f.definitions (i + 1))
     (subst (λ m. c.fold_definition.new.steps ≤ c.args.steps.now + 2 * (f.counts.n_var + 1) * m) (sym (definition_size f c.requires.file i c.definition-item.result at))
-    (steps_more f.counts.n_var c.args.steps.now c.loop-index.steps c.fold_definition.new.steps (definitions_size (take i f.definitions)) (tree_size c.definition-item.result.tree + length c.definition-item.result.terms) c.loop-index.invariant.below c.in-Err.ensures.below))
+    (steps_more f.counts.n_var c.args.steps.now c.loop-index.steps c.fold_definition.new.steps
+    (definitions_size (take i f.definitions)) (tree_size c.definition-item.result.tree
+    + length c.definition-item.result.terms) c.loop-index.invariant.below c.in-Err.ensures.below))
 
 pub returns-clause-folded : goal.returns-clause-folded
 returns-clause-folded g c =
@@ -64,4 +72,5 @@ pub returns-clause-below : goal.returns-clause-below
 returns-clause-below g c =
     let f = c.args.file.now in
     let i = c.loop-index.index in
-    steps_within f.counts.n_var c.args.steps.now c.loop-index.steps (definitions_size (take i f.definitions)) (definitions_size f.definitions) (definitions_size_le f.definitions i) c.loop-index.invariant.below
+    steps_within f.counts.n_var c.args.steps.now c.loop-index.steps (definitions_size (take i f.definitions))
+    (definitions_size f.definitions) (definitions_size_le f.definitions i) c.loop-index.invariant.below

@@ -1,6 +1,6 @@
 use Rattle.std.proofs.Common.{◌≡◌, ◌+◌, drop}
-use Rattle.nl_meaning.specs.Faults.{line_with_terms, terms_fault}
-use Rattle.file_meaning.specs.Expressions.{linear_terms}
+use Rattle.nl_model.specs.Faults.{line_with_terms, terms_fault}
+use Rattle.nl_model.specs.Expressions.{linear_terms}
 use Rattle.linear_program.specs.Forms.{place_count, sum_line}
 use Rattle.linear_fold.proofs.expression.add_linear_terms.Given as goal
 

@@ -1,7 +1,7 @@
 use Rattle.std.proofs.Common.{◌≤◌, ◌+◌, ◌*◌, length, sym, option_copied, subst}
 use Rattle.std.specs.Option.{option_map_or}
-use Rattle.nl_meaning.specs.Trees.{tree_size}
-use Rattle.file_meaning.specs.Expressions.{linear_terms, tree_or_zero}
+use Rattle.nl_model.specs.Trees.{tree_size}
+use Rattle.nl_model.specs.Expressions.{linear_terms, tree_or_zero}
 use Rattle.linear_fold.specs.InsideFolds.{IsExpressionFolded}
 use Rattle.linear_fold.proofs.Expressions.{both_steps}
 use Rattle.linear_fold.proofs.Operators.{if_ok}
@@ -17,5 +17,6 @@ returns-clause-entry g c =
 
 pub returns-clause-below : goal.returns-clause-below
 returns-clause-below g c =
-    both_steps (c.args.variables + 1) (option_map_or tree_size (option_copied c.args.tree) 0) (length c.args.terms.now) c.args.steps.now c.tree_entry.new.steps c.sum_entry.new.steps c.tree_entry.ensures.below
+    both_steps (c.args.variables + 1) (option_map_or tree_size (option_copied c.args.tree) 0) (length c.args.terms.now)
+    c.args.steps.now c.tree_entry.new.steps c.sum_entry.new.steps c.tree_entry.ensures.below
     (subst (λ ts. c.sum_entry.new.steps ≤ c.tree_entry.new.steps + 2 * (c.args.variables + 1) * length ts) c.items.ensures c.sum_entry.ensures.below)

@@ -1,6 +1,6 @@
 use Rattle.std.proofs.Common.{◌∙◌, ap, sym, option_copied}
-use Rattle.nl_meaning.specs.Trees.{tree_size}
-use Rattle.file_meaning.specs.Expressions.{tree_or_zero}
+use Rattle.nl_model.specs.Trees.{tree_size}
+use Rattle.nl_model.specs.Expressions.{tree_or_zero}
 use Rattle.linear_fold.proofs.Expressions.{prefix_size}
 use Rattle.linear_fold.proofs.expression.node_count.Goals as goal
 

@@ -1,6 +1,6 @@
 use Rattle.std.proofs.Common.{IfSome, ap, length, option_copied, subst}
-use Rattle.fractions.specs.Rational.{zero_ℚ}
-use Rattle.nl_meaning.specs.Trees.{tree_size}
+use Rattle.exact_numbers.specs.Rational.{zero_ℚ}
+use Rattle.nl_model.specs.Trees.{tree_size}
 use Rattle.linear_fold.specs.InsideFolds.{IsTreeGiven}
 use Rattle.linear_fold.specs.InsideLeafSums.{IsFormOf}
 use Rattle.linear_fold.proofs.Expressions.{prefix_size, prefix_within, zero_folded}
@@ -15,12 +15,16 @@ fold_tree-requires-clause-within g c =
 pub returns-in_err-form-in-Some-clause-below : goal.returns-in_err-form-in-Some-clause-below
 returns-in_err-form-in-Some-clause-below g c =
     let nodes = c.nodes-nodes.result.now in
-    rw c.in-Some.is (leaf_bound c.args.variables c.leaf_sum.new.steps c.args.steps.now (length nodes) (tree_size c.in-Some.expr.now) (prefix_size c.nodes-nodes.ensures.prefix) (some_node nodes (ap length c.nodes-nodes.ensures.trees)) c.leaf_sum.ensures.below)
+    rw c.in-Some.is (leaf_bound c.args.variables c.leaf_sum.new.steps c.args.steps.now (length nodes)
+    (tree_size c.in-Some.expr.now) (prefix_size c.nodes-nodes.ensures.prefix)
+    (some_node nodes (ap length c.nodes-nodes.ensures.trees)) c.leaf_sum.ensures.below)
 
 pub returns-in-Some-2-clause-entry : goal.returns-in-Some-2-clause-entry
 returns-in-Some-2-clause-entry g c known are =
     rw c.in-Some.is
-    ((some_holds _ c.in-Some-2.form (IsFormOf c.args.variables c.nodes-nodes.result.now) c.in-Some-2.is c.in_ok-form-in-Some.ensures.form).folded known c.in-Some.expr.now c.nodes-nodes.ensures.tree_formed c.nodes-nodes.ensures.trees)
+    ((some_holds _ c.in-Some-2.form (IsFormOf c.args.variables c.nodes-nodes.result.now) c.in-Some-2.is
+    c.in_ok-form-in-Some.ensures.form).folded known c.in-Some.expr.now c.nodes-nodes.ensures.tree_formed
+    c.nodes-nodes.ensures.trees)
 
 pub returns-in-Some-2-clause-within : goal.returns-in-Some-2-clause-within
 returns-in-Some-2-clause-within g c = (some_holds _ c.in-Some-2.form (IsFormOf c.args.variables c.nodes-nodes.result.now) c.in-Some-2.is c.in_ok-form-in-Some.ensures.form).within
@@ -28,11 +32,15 @@ returns-in-Some-2-clause-within g c = (some_holds _ c.in-Some-2.form (IsFormOf c
 pub returns-in-Some-2-clause-below : goal.returns-in-Some-2-clause-below
 returns-in-Some-2-clause-below g c =
     let nodes = c.nodes-nodes.result.now in
-    rw c.in-Some.is (leaf_bound c.args.variables c.leaf_sum.new.steps c.args.steps.now (length nodes) (tree_size c.in-Some.expr.now) (prefix_size c.nodes-nodes.ensures.prefix) (some_node nodes (ap length c.nodes-nodes.ensures.trees)) c.leaf_sum.ensures.below)
+    rw c.in-Some.is (leaf_bound c.args.variables c.leaf_sum.new.steps c.args.steps.now (length nodes)
+    (tree_size c.in-Some.expr.now) (prefix_size c.nodes-nodes.ensures.prefix)
+    (some_node nodes (ap length c.nodes-nodes.ensures.trees)) c.leaf_sum.ensures.below)
 
 pub returns-in-None-2-clause-below : goal.returns-in-None-2-clause-below
 returns-in-None-2-clause-below g c =
-    rw c.in-Some.is (tree_bound c.args.variables c.fold_tree.new.steps c.leaf_sum.new.steps c.args.steps.now (length c.nodes-nodes.result.now) (tree_size c.in-Some.expr.now) (prefix_size c.nodes-nodes.ensures.prefix) c.leaf_sum.ensures.below c.fold_tree.ensures.below)
+    rw c.in-Some.is (tree_bound c.args.variables c.fold_tree.new.steps c.leaf_sum.new.steps c.args.steps.now
+    (length c.nodes-nodes.result.now) (tree_size c.in-Some.expr.now) (prefix_size c.nodes-nodes.ensures.prefix)
+    c.leaf_sum.ensures.below c.fold_tree.ensures.below)
 
 pub returns-in-None-clause-entry : goal.returns-in-None-clause-entry
 returns-in-None-clause-entry g c known are = rw c.in-None.is (zero_folded known c.args.variables c.new.result c.new.ensures.line)

@@ -1,6 +1,6 @@
 use Rattle.std.proofs.Common.{◌≡◌, ◌∙◌, IfSome, subst, sym}
 use Rattle.nl_model.specs.Rules.{AreTermsBelow}
-use Rattle.file_meaning.specs.Expressions.{linear_terms}
+use Rattle.nl_model.specs.Expressions.{linear_terms}
 use Rattle.linear_program.specs.Forms.{IsWithin, sum_line}
 use Rattle.linear_fold.specs.InsideFolds.{ComesToTerms}
 use Rattle.linear_fold.proofs.Operators.{if_ok}
@@ -22,5 +22,7 @@ returns-clause-pad g c =
 pub returns-clause-entry : goal.returns-clause-entry
 returns-clause-entry g c =
     if_ok c.entry_of_sum.result _ _
-    (λ e h. subst (λ l. ComesToTerms l c.args.first (linear_terms c.args.terms.now) e) c.in_ok-put.ensures.line (h (sum_line c.put.new.total) c.args.first (linear_terms c.args.terms.now) c.add_linear_terms-summed.ensures.adds))
+    (λ e h. subst (λ l. ComesToTerms l c.args.first (linear_terms c.args.terms.now) e) c.in_ok-put.ensures.line
+    (h (sum_line c.put.new.total) c.args.first (linear_terms c.args.terms.now)
+    c.add_linear_terms-summed.ensures.adds))
     c.entry_of_sum.ensures.entry

@@ -1,5 +1,5 @@
 use Rattle.std.proofs.Common.{◌≡◌, ◌∙◌, ◌+◌, ◌-◌, sym, ap, refl, arith, Some}
-use Rattle.program_meaning.specs.Lines.{line_value}
+use Rattle.linear_program.specs.Lines.{line_value}
 use Rattle.linear_fold.proofs.Folding.{form_within, slot_at}
 use Rattle.linear_fold.proofs.fold.defined_part.Goals as goal
 
@@ -15,4 +15,6 @@ returns-clause-part c i known are =
 pub returns-clause-within : goal.returns-clause-within
 returns-clause-within c =
     form_within c.args.variables c.in_ok-copy-in-Some.copy c.in-Some.form c.in_ok-copy-in-Some.ensures.line c.in_ok-copy-in-Some.ensures.closed
-    (c.requires.slots (c.args.index - c.args.variables) c.in-Some.form (slot_at c.args.slots.now (c.args.index - c.args.variables) c.index-slots-index.result c.requires.given.below c.index-slots-index.is ∙ c.in-Some.is))
+    (c.requires.slots (c.args.index - c.args.variables) c.in-Some.form
+    (slot_at c.args.slots.now (c.args.index - c.args.variables) c.index-slots-index.result c.requires.given.below
+    c.index-slots-index.is ∙ c.in-Some.is))

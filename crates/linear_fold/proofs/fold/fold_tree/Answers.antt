@@ -14,7 +14,8 @@ returns-in_err-stack-clause-below g c = no_step (c.args.variables + 1) c.args.st
 pub part_of-requires-clause-finds : goal.part_of-requires-clause-finds
 part_of-requires-clause-finds g c =
     let here = node_at c.args.nodes.now c.loop-place.place c.index-nodes-place.result c.loop-place-test.true c.loop-place.auto.place c.index-nodes-place.is in
-    let found = finds_at c.args.variables c.args.slots.now c.args.nodes.now (drop c.loop-place.place c.args.nodes.now) (c.loop-place.place - 1) c.index-nodes-place.result c.requires.formed c.requires.within here in
+    let found = finds_at c.args.variables c.args.slots.now c.args.nodes.now (drop c.loop-place.place c.args.nodes.now)
+    (c.loop-place.place - 1) c.index-nodes-place.result c.requires.formed c.requires.within here in
     subst (λ r. NodeFinds c.args.variables c.args.slots.now r c.index-nodes-place.result) (omega (arith, c.loop-place.invariant.many, c.loop-place.stack.ok.0)) found
 
 pub loop-place-preserved : goal.loop-place-preserved
@@ -28,7 +29,9 @@ loop-place-preserved g c =
     record {
       folded = λ known are.
           subst₂ (λ ts es. ArePartsFolded known c.args.variables (c.loop-place.place - 1) ts es) (sym (ap trees_of here)) (sym top)
-          (got.part known trees are (subst (λ q. ArePartsFolded known c.args.variables q trees (reverse c.loop-place.stack.items)) (let h = c.loop-place-test.true in omega arith) (c.loop-place.invariant.folded known are)));
+          (got.part known trees are (subst (λ q. ArePartsFolded known c.args.variables q trees
+          (reverse c.loop-place.stack.items)) (let h = c.loop-place-test.true in omega arith)
+          (c.loop-place.invariant.folded known are)));
       many =
           (let a : length (trees_of (drop (c.loop-place.place - 1) c.args.nodes.now)) ≡ length (with_node c.index-nodes-place.result trees) = ap (λ ns. length (trees_of ns)) here in
           omega (arith, got.size trees c.loop-place.invariant.many, longer));
@@ -37,8 +40,12 @@ loop-place-preserved g c =
       above = (let h = c.loop-place.invariant.above in let k = got.above in omega arith);
       below =
           subst (λ k. c.part_of.new.steps + 2 * (c.args.variables + 1) * k ≤ c.args.steps.now + 2 * (c.args.variables + 1) * (length c.args.nodes.now - (c.loop-place.place - 1))) (sym longer)
-          (tree_steps (c.args.variables + 1) (length c.args.nodes.now) c.loop-place.place c.args.steps.now c.loop-place.steps c.part_of.new.steps (length c.loop-place.stack.items) (length c.part_of.new.stack.items) c.loop-place-test.true c.loop-place.auto.place c.loop-place.invariant.below
-          (subst₂ (λ a b. c.part_of.new.steps + 2 * (c.args.variables + 1) * a ≤ c.loop-place.steps + 2 * (c.args.variables + 1) * b) (omega (arith, c.part_of.new.stack.ok.0)) (omega (arith, c.loop-place.stack.ok.0)) got.used));
+          (tree_steps (c.args.variables + 1) (length c.args.nodes.now) c.loop-place.place c.args.steps.now
+          c.loop-place.steps c.part_of.new.steps (length c.loop-place.stack.items) (length c.part_of.new.stack.items)
+          c.loop-place-test.true c.loop-place.auto.place c.loop-place.invariant.below
+          (subst₂ (λ a b. c.part_of.new.steps + 2 * (c.args.variables + 1) * a
+          ≤ c.loop-place.steps + 2 * (c.args.variables + 1) * b) (omega (arith, c.part_of.new.stack.ok.0))
+          (omega (arith, c.loop-place.stack.ok.0)) got.used));
     }
 
 -- the one part that is left
@@ -68,23 +75,31 @@ returns-clause-entry g c =
     (λ e is known tree are one.
     entry_folded known c.args.variables tree c.close.new.self e is
     (same_folded known c.args.variables 0 tree c.take_last-part.result c.close.new.self c.in_ok-close.ensures.same
-    (top_folded known c.args.variables c.loop-place.place c.args.nodes.now tree c.loop-place.stack.items c.take_last-part.new.stack.items c.take_last-part.result (let h = c.loop-place-test.false in omega arith) one (c.loop-place.invariant.folded known are) c.take_last-part.ensures)))
+    (top_folded known c.args.variables c.loop-place.place c.args.nodes.now tree c.loop-place.stack.items
+    c.take_last-part.new.stack.items c.take_last-part.result (let h = c.loop-place-test.false in omega arith) one
+    (c.loop-place.invariant.folded known are) c.take_last-part.ensures)))
     c.into_entry.ensures.entry
 
 pub returns-clause-within : goal.returns-clause-within
 returns-clause-within g c =
     if_ok c.into_entry.result _ _
-    (λ e is. entry_is_within c.args.variables c.close.new.self e is (same_within c.args.variables c.take_last-part.result c.close.new.self c.in_ok-close.ensures.same (top_within g (goal.at.returns-clause-within g c).After-take_last-part)))
+    (λ e is. entry_is_within c.args.variables c.close.new.self e is
+    (same_within c.args.variables c.take_last-part.result c.close.new.self c.in_ok-close.ensures.same
+    (top_within g (goal.at.returns-clause-within g c).After-take_last-part)))
     c.into_entry.ensures.entry
 
 pub returns-in_err-part-clause-below : goal.returns-in_err-part-clause-below
 returns-in_err-part-clause-below g c =
-    stopped_steps (c.args.variables + 1) (length c.args.nodes.now) c.loop-place.place c.args.steps.now c.loop-place.steps c.part_of.new.steps (length c.loop-place.stack.items) c.loop-place-test.true c.loop-place.auto.place c.loop-place.invariant.below
+    stopped_steps (c.args.variables + 1) (length c.args.nodes.now) c.loop-place.place c.args.steps.now
+    c.loop-place.steps c.part_of.new.steps (length c.loop-place.stack.items) c.loop-place-test.true
+    c.loop-place.auto.place c.loop-place.invariant.below
     (subst (λ b. c.part_of.new.steps ≤ c.loop-place.steps + 2 * (c.args.variables + 1) * b) (omega (arith, c.loop-place.stack.ok.0)) c.in_err-part.ensures.below)
 
 pub returns-in_err-put_part-clause-below : goal.returns-in_err-put_part-clause-below
 returns-in_err-put_part-clause-below g c =
-    stopped_steps (c.args.variables + 1) (length c.args.nodes.now) c.loop-place.place c.args.steps.now c.loop-place.steps c.part_of.new.steps (length c.loop-place.stack.items) c.loop-place-test.true c.loop-place.auto.place c.loop-place.invariant.below
+    stopped_steps (c.args.variables + 1) (length c.args.nodes.now) c.loop-place.place c.args.steps.now
+    c.loop-place.steps c.part_of.new.steps (length c.loop-place.stack.items) c.loop-place-test.true
+    c.loop-place.auto.place c.loop-place.invariant.below
     (subst (λ b. c.part_of.new.steps ≤ c.loop-place.steps + 2 * (c.args.variables + 1) * b) (omega (arith, c.loop-place.stack.ok.0)) c.in_ok-part.ensures.below)
 
 some_left : (g : _) (c : After-take_last-part g) → 0 < length c.loop-place.stack.items
@@ -92,8 +107,13 @@ some_left g c = (let h = popped_length c.loop-place.stack.items c.take_last-part
 
 pub returns-in_err-close-clause-below : goal.returns-in_err-close-clause-below
 returns-in_err-close-clause-below g c =
-    last_steps (c.args.variables + 1) (length c.args.nodes.now) c.loop-place.place c.args.steps.now c.loop-place.steps c.loop-place.steps (length c.loop-place.stack.items) (some_left g (goal.at.returns-in_err-close-clause-below g c).After-take_last-part) c.loop-place.invariant.below (omega arith)
+    last_steps (c.args.variables + 1) (length c.args.nodes.now) c.loop-place.place c.args.steps.now c.loop-place.steps
+    c.loop-place.steps (length c.loop-place.stack.items) (some_left g
+    (goal.at.returns-in_err-close-clause-below g c).After-take_last-part) c.loop-place.invariant.below (omega arith)
 
 pub returns-clause-below : goal.returns-clause-below
 returns-clause-below g c =
-    last_steps (c.args.variables + 1) (length c.args.nodes.now) c.loop-place.place c.args.steps.now c.loop-place.steps c.into_entry.new.steps (length c.loop-place.stack.items) (some_left g (goal.at.returns-clause-below g c).After-take_last-part) c.loop-place.invariant.below c.into_entry.ensures.below
+    last_steps (c.args.variables + 1) (length c.args.nodes.now) c.loop-place.place c.args.steps.now c.loop-place.steps
+    c.into_entry.new.steps (length c.loop-place.stack.items)
+    (some_left g (goal.at.returns-clause-below g c).After-take_last-part) c.loop-place.invariant.below
+    c.into_entry.ensures.below

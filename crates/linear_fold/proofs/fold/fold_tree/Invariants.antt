@@ -1,6 +1,6 @@
 use Rattle.std.proofs.Common.{◌≡◌, ◌≤◌, ◌+◌, ◌-◌, ◌*◌, length, reverse, drop}
-use Rattle.nl_meaning.specs.Trees.{Known}
-use Rattle.program_meaning.specs.Lines.{Point}
+use Rattle.nl_model.specs.Trees.{Known}
+use Rattle.linear_program.specs.Lines.{Point}
 use Rattle.nl_model.specs.Nodes.{trees_of}
 use Rattle.linear_fold.specs.InsideFolds.{AreKnown, ArePartsFolded, ArePartsWithin}
 use Rattle.linear_fold.specs.InsideOperates.{IsPad}

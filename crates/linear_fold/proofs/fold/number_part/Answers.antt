@@ -1,7 +1,7 @@
 use Rattle.std.proofs.Common.{ap}
 use Rattle.exact_numbers.specs.Values.{frac_value}
-use Rattle.program_meaning.specs.Lines.{constant_line}
-use Rattle.nl_meaning.specs.Faults.{fault_at, too_wide_unless}
+use Rattle.linear_program.specs.Lines.{constant_line}
+use Rattle.nl_model.specs.Faults.{fault_at, too_wide_unless}
 use Rattle.linear_fold.proofs.Folding.{constant_lined, same_values}
 use Rattle.linear_fold.proofs.fold.number_part.Goals as goal
 

@@ -1,5 +1,5 @@
 use Rattle.std.proofs.Common.{◌≡◌, ◌∙◌, ◌+◌, ◌*◌, None, ap, arith, length, reverse, subst, sym, take}
-use Rattle.nl_meaning.specs.Trees.{Takes, rule_of}
+use Rattle.nl_model.specs.Trees.{Takes, rule_of}
 use Rattle.linear_fold.specs.declared.operate.Outcome.{Outcome}
 use Rattle.linear_fold.specs.InsideFolds.{first_broken}
 use Rattle.linear_fold.specs.InsideOperates.{AreOperands, Operates, lines_of_parts}
@@ -9,7 +9,9 @@ use Rattle.linear_fold.proofs.fold.operation_part.Goals as goal
 use Rattle.linear_fold.proofs.fold.operation_part.Goals.{After-operate}
 
 -- no operand has a fault
-sound : (g : _) (c : After-operate g) → (first_broken (take c.args.count (reverse c.args.stack.now.items)) ≡ None) × Takes (rule_of c.args.class) (length (take c.args.count (reverse c.args.stack.now.items))) × AreOperands c.args.variables (take c.args.count (reverse c.args.stack.now.items))
+sound : (g : _) (c : After-operate g) → (first_broken (take c.args.count (reverse c.args.stack.now.items)) ≡ None)
+    × Takes (rule_of c.args.class) (length (take c.args.count (reverse c.args.stack.now.items)))
+    × AreOperands c.args.variables (take c.args.count (reverse c.args.stack.now.items))
 sound g c =
     let operands = take c.args.count (reverse c.args.stack.now.items) in
     let clean : first_broken operands ≡ None = ap first_broken (sym c.operands_of.ensures.operands) ∙ sym c.first_fault.ensures ∙ c.in_default.is in (
@@ -19,14 +21,17 @@ sound g c =
     )
 
 pub returns-in-Some-clause-part : goal.returns-in-Some-clause-part
-returns-in-Some-clause-part g c known ts operands = faulty_operands known c.args.variables c.args.place c.args.class ts (take c.args.count (reverse c.args.stack.now.items)) operands c.in-Some.fault (ap first_broken (sym c.operands_of.ensures.operands) ∙ sym c.first_fault.ensures ∙ c.in-Some.is)
+returns-in-Some-clause-part g c known ts operands = faulty_operands known c.args.variables c.args.place c.args.class ts
+    (take c.args.count (reverse c.args.stack.now.items)) operands c.in-Some.fault
+    (ap first_broken (sym c.operands_of.ensures.operands) ∙ sym c.first_fault.ensures ∙ c.in-Some.is)
 
 pub returns-in-Some-clause-below : goal.returns-in-Some-clause-below
 returns-in-Some-clause-below g c = from_start c.args.steps.now (2 * (c.args.variables + 1) * c.args.count)
 
 pub operate-requires-clause-within : goal.operate-requires-clause-within
 operate-requires-clause-within g c =
-    all_operands c.args.variables (take c.args.count (reverse c.args.stack.now.items)) c.requires.within (ap first_broken (sym c.operands_of.ensures.operands) ∙ sym c.first_fault.ensures ∙ c.in_default.is)
+    all_operands c.args.variables (take c.args.count (reverse c.args.stack.now.items)) c.requires.within
+    (ap first_broken (sym c.operands_of.ensures.operands) ∙ sym c.first_fault.ensures ∙ c.in_default.is)
 
 pub returns-in-Ok-Linear-clause-part : goal.returns-in-Ok-Linear-clause-part
 returns-in-Ok-Linear-clause-part g c known ts operands =

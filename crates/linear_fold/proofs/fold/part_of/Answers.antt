@@ -1,6 +1,6 @@
 use Rattle.std.proofs.Common.{◌≡◌, ◌≤◌, ◌∷◌, ◌∙◌, ◌+◌, ◌-◌, drop, length, refl, reverse, sym, ap, subst, take, arith, vec_len}
 use Rattle.std.proofs.lemmas.List.{length-reverse, length-take-le}
-use Rattle.nl_meaning.specs.Trees.{Takes, operator, rule_of}
+use Rattle.nl_model.specs.Trees.{Takes, operator, rule_of}
 use Rattle.nl_model.specs.Nodes.{with_node}
 use Rattle.linear_fold.specs.InsideFolds.{ArePartsFolded, ArePartsWithin, IsPartFolded, NodeFinds}
 use Rattle.linear_fold.proofs.Folding.{entry_steps, operator_size, operator_step, within_take, within_parts_drop}
@@ -20,7 +20,9 @@ within_now : (g : _) (c : After-operation_part g) → ArePartsWithin c.args.vari
 within_now g c = parts_within c.args.variables (reverse c.args.stack.now.items) (reverse c.make_way.new.stack.items) c.in_ok-make_way-in-Op.ensures.same c.requires.parts
 
 size_now : (g : _) (c : After-operation_part g) → length c.make_way.new.stack.items ≡ length c.args.stack.now.items
-size_now g c = sym (length-reverse c.make_way.new.stack.items) ∙ parts_length (reverse c.args.stack.now.items) (reverse c.make_way.new.stack.items) c.in_ok-make_way-in-Op.ensures.same ∙ length-reverse c.args.stack.now.items
+size_now g c = sym (length-reverse c.make_way.new.stack.items)
+    ∙ parts_length (reverse c.args.stack.now.items) (reverse c.make_way.new.stack.items)
+    c.in_ok-make_way-in-Op.ensures.same ∙ length-reverse c.args.stack.now.items
 
 -- what is left at the end
 left : (g : _) (c : In_ok-let_go-in-Op g) → reverse c.let_go.new.stack.items ≡ drop c.in-Op.count (reverse c.make_way.new.stack.items)
@@ -54,13 +56,17 @@ pub operation_part-requires-clause-count : goal.operation_part-requires-clause-c
 operation_part-requires-clause-count g c =
     let at = goal.at.operation_part-requires-clause-count g c in
     let h = (found g at.After-make_way).1 in
-    let s = sym (length-reverse c.make_way.new.stack.items) ∙ parts_length (reverse c.args.stack.now.items) (reverse c.make_way.new.stack.items) c.in_ok-make_way-in-Op.ensures.same ∙ length-reverse c.args.stack.now.items in
+    let s = sym (length-reverse c.make_way.new.stack.items)
+    ∙ parts_length (reverse c.args.stack.now.items) (reverse c.make_way.new.stack.items)
+    c.in_ok-make_way-in-Op.ensures.same ∙ length-reverse c.args.stack.now.items in
     let k = c.make_way.new.stack.ok.0 in
     omega arith
 
 pub operation_part-requires-clause-within : goal.operation_part-requires-clause-within
 operation_part-requires-clause-within g c =
-    within_take c.args.variables c.in-Op.count (reverse c.make_way.new.stack.items) (parts_within c.args.variables (reverse c.args.stack.now.items) (reverse c.make_way.new.stack.items) c.in_ok-make_way-in-Op.ensures.same c.requires.parts)
+    within_take c.args.variables c.in-Op.count (reverse c.make_way.new.stack.items)
+    (parts_within c.args.variables (reverse c.args.stack.now.items) (reverse c.make_way.new.stack.items)
+    c.in_ok-make_way-in-Op.ensures.same c.requires.parts)
 
 pub let_go-requires-clause-rest : goal.let_go-requires-clause-rest
 let_go-requires-clause-rest g c =
@@ -76,13 +82,17 @@ let_go-requires-clause-rest g c =
 pub let_go-requires-clause-parts : goal.let_go-requires-clause-parts
 let_go-requires-clause-parts g c =
     let at = goal.at.let_go-requires-clause-parts g c in
-    left_within c.args.variables c.in-Op.count c.make_way.new.stack.items c.operation_part.new.stack.items c.in_ok-part-in-Op.ensures.left (left_shorter c.in-Op.count c.make_way.new.stack.items c.operation_part.new.stack.items c.in_ok-part-in-Op.ensures.left) (within_now g at.After-operation_part)
+    left_within c.args.variables c.in-Op.count c.make_way.new.stack.items c.operation_part.new.stack.items
+    c.in_ok-part-in-Op.ensures.left (left_shorter c.in-Op.count c.make_way.new.stack.items
+    c.operation_part.new.stack.items c.in_ok-part-in-Op.ensures.left) (within_now g at.After-operation_part)
 
 pub returns-in_ok-let_go-in-Op-clause-within : goal.returns-in_ok-let_go-in-Op-clause-within
 returns-in_ok-let_go-in-Op-clause-within g c =
     let at = goal.at.returns-in_ok-let_go-in-Op-clause-within g c in (
       c.in_ok-part-in-Op.ensures.within,
-      subst (ArePartsWithin c.args.variables) (sym (left g at.In_ok-let_go-in-Op)) (within_parts_drop c.args.variables c.in-Op.count (reverse c.make_way.new.stack.items) (within_now g at.After-operation_part)),
+      subst (ArePartsWithin c.args.variables) (sym (left g at.In_ok-let_go-in-Op))
+          (within_parts_drop c.args.variables c.in-Op.count (reverse c.make_way.new.stack.items)
+          (within_now g at.After-operation_part)),
     )
 
 pub returns-in_ok-let_go-in-Op-clause-size : goal.returns-in_ok-let_go-in-Op-clause-size
@@ -100,7 +110,9 @@ returns-in_ok-let_go-in-Op-clause-part g c known trees are folded =
     let h = (found g at.After-make_way).1 in
     let now = reverse c.make_way.new.stack.items in
     subst (λ node. ArePartsFolded known c.args.variables c.args.place (with_node node trees) (c.in_ok-part-in-Op.part ∷ reverse c.let_go.new.stack.items)) (sym c.in-Op.is)
-    (operator_step known c.args.variables c.args.place c.in-Op.opcode c.in-Op.count trees now (reverse c.let_go.new.stack.items) (take c.in-Op.count now) c.in_ok-part-in-Op.part (omega (arith, h, s, length-reverse c.make_way.new.stack.items)) refl (left g at.In_ok-let_go-in-Op)
+    (operator_step known c.args.variables c.args.place c.in-Op.opcode c.in-Op.count trees now
+    (reverse c.let_go.new.stack.items) (take c.in-Op.count now) c.in_ok-part-in-Op.part
+    (omega (arith, h, s, length-reverse c.make_way.new.stack.items)) refl (left g at.In_ok-let_go-in-Op)
     (λ ts w. subst (λ class. IsPartFolded known c.args.variables c.args.place (operator class ts) c.in_ok-part-in-Op.part) c.class_of-class.ensures (c.in_ok-part-in-Op.ensures.part known ts w))
     (parts_folded known c.args.variables (c.args.place + 1) trees (reverse c.args.stack.now.items) now c.in_ok-make_way-in-Op.ensures.same folded))
 
@@ -112,5 +124,7 @@ returns-in_ok-let_go-in-Op-clause-used g c =
     let l = c.len.ensures in
     let k = c.args.stack.now.ok.0 in
     let m = c.let_go.new.stack.ok.0 in
-    let front : length c.let_go.new.stack.items ≡ c.len.result - c.in-Op.count = ap length c.in_ok-let_go-in-Op.ensures.front ∙ length-take-le (c.len.result - c.in-Op.count) c.operation_part.new.stack.items (let few = c.in_ok-part-in-Op.ensures.left.few in omega arith) in
+    let front : length c.let_go.new.stack.items ≡ c.len.result - c.in-Op.count =
+    ap length c.in_ok-let_go-in-Op.ensures.front ∙ length-take-le (c.len.result - c.in-Op.count)
+    c.operation_part.new.stack.items (let few = c.in_ok-part-in-Op.ensures.left.few in omega arith) in
     entry_steps (c.args.variables + 1) c.args.steps.now c.operation_part.new.steps c.in-Op.count (vec_len c.let_go.new.stack) (vec_len c.args.stack.now) c.in_ok-part-in-Op.ensures.below (omega arith)

@@ -14,7 +14,8 @@ loop-preserved g c =
       leaves = adds.leaves;
       leads = λ known line rest.
           c.loop.invariant.leads known line
-          (leaf_more known c.args.variables c.args.nodes.now c.loop.place (c.args.count - (c.loop.counter + 1)) (c.args.count - c.loop.counter) leaf c.loop.sum c.add_leaf.new.sum line c.in-Some.ensures adds left rest);
+          (leaf_more known c.args.variables c.args.nodes.now c.loop.place (c.args.count - (c.loop.counter + 1))
+          (c.args.count - c.loop.counter) leaf c.loop.sum c.add_leaf.new.sum line c.in-Some.ensures adds left rest);
       above = (let h = c.loop.invariant.above in let k = c.tick.ensures in omega arith);
       below = (let h = c.loop.invariant.below in let k = c.tick.ensures in let m = adds.more in omega arith);
     }

@@ -8,4 +8,6 @@ pub returns : goal.returns
 returns c t =
     let old = c.args.sum.now in
     let new : LeafSum = record { terms = c.push.new.self; number = old.number; least = c.args.variable + 1 } in
-    multiple_added c.args.variables old c.requires c.args.variable c.args.factor c.if-variable-sum.false c.if-variable-variables.false (not_zero c.is_zero.result _ c.is_zero.ensures.1 c.if-is_zero.false) (sym c.has_fraction.ensures ∙ c.if-not-has_fraction.false) new c.in_ok-push.ensures.ok refl refl
+    multiple_added c.args.variables old c.requires c.args.variable c.args.factor c.if-variable-sum.false
+    c.if-variable-variables.false (not_zero c.is_zero.result _ c.is_zero.ensures.1 c.if-is_zero.false)
+    (sym c.has_fraction.ensures ∙ c.if-not-has_fraction.false) new c.in_ok-push.ensures.ok refl refl

@@ -1,5 +1,5 @@
 use Rattle.std.proofs.Common.{◌≡◌, ◌+◌, ◌-◌, suc, arith, drop}
-use Rattle.fractions.specs.Rational.{zero_ℚ}
+use Rattle.exact_numbers.specs.Rational.{zero_ℚ}
 use Rattle.nl_model.specs.Nodes.{trees_of}
 use Rattle.linear_program.specs.Forms.{parts_line}
 use Rattle.linear_fold.specs.InsideLeafSums.{Appends}
@@ -20,7 +20,9 @@ loop-preserved g c =
       few = (let h = adds.inside in omega arith);
       leads = λ known line rest.
           c.loop.invariant.leads known line
-          (multiple_more known n c.args.nodes.now c.loop.place c.loop.least (c.args.count - (c.loop.counter + 1)) (c.args.count - c.loop.counter) m old new line c.in-Some.ensures c.loop.invariant.terms.below adds left rest);
+          (multiple_more known n c.args.nodes.now c.loop.place c.loop.least (c.args.count - (c.loop.counter + 1))
+          (c.args.count - c.loop.counter) m old new line c.in-Some.ensures c.loop.invariant.terms.below adds left
+          rest);
       above = (let h = c.loop.invariant.above in let k = c.tick.ensures in omega arith);
       below = (let h = c.loop.invariant.below in let k = c.tick.ensures in let l = adds.up in omega arith);
     }
@@ -31,4 +33,6 @@ returns-clause-terms g c t = terms_from c.loop.least c.args.variables c.loop.ter
 pub returns-clause-sum : goal.returns-clause-sum
 returns-clause-sum g c known t =
     c.loop.invariant.leads known (parts_line zero_ℚ c.loop.terms.items)
-    (leaves_end known c.args.variables c.loop.place (c.args.count - c.loop.counter) (trees_of (drop c.loop.place c.args.nodes.now)) (parts_line zero_ℚ c.loop.terms.items) (let h = c.loop-test.false in omega arith))
+    (leaves_end known c.args.variables c.loop.place (c.args.count - c.loop.counter)
+    (trees_of (drop c.loop.place c.args.nodes.now)) (parts_line zero_ℚ c.loop.terms.items)
+    (let h = c.loop-test.false in omega arith))

@@ -1,7 +1,7 @@
 use Rattle.std.proofs.Common.{◌≤◌, ◌+◌, ◌-◌, drop, length}
-use Rattle.fractions.specs.Rational.{zero_ℚ}
-use Rattle.program_meaning.specs.Lines.{Line, Point}
-use Rattle.nl_meaning.specs.Trees.{Known, first_trees}
+use Rattle.exact_numbers.specs.Rational.{zero_ℚ}
+use Rattle.linear_program.specs.Lines.{Line, Point}
+use Rattle.nl_model.specs.Trees.{Known, first_trees}
 use Rattle.nl_model.specs.Nodes.{trees_of}
 use Rattle.linear_program.specs.Forms.{parts_line}
 use Rattle.linear_fold.specs.InsideLeafSums.{AreTerms, SumsUpTo}
@@ -14,7 +14,9 @@ invariant-loop g l =
       within : l.place ≤ length l.nodes;
       terms : AreTerms l.least l.terms.items;
       few : l.least ≤ l.variables;
-      leads : (known : Point → Known) (line : Line) → SumsUpTo known l.variables l.place (first_trees (l.count - l.counter) (trees_of (drop l.place l.nodes))) (parts_line zero_ℚ l.terms.items) line → SumsUpTo known l.variables 1 (first_trees l.count (trees_of (drop 1 l.nodes))) zero_line line;
+      leads : (known : Point → Known) (line : Line) → SumsUpTo known l.variables l.place
+          (first_trees (l.count - l.counter) (trees_of (drop l.place l.nodes))) (parts_line zero_ℚ l.terms.items) line
+          → SumsUpTo known l.variables 1 (first_trees l.count (trees_of (drop 1 l.nodes))) zero_line line;
       above : l.fn.steps ≤ l.steps;
       below : l.steps ≤ l.fn.steps + l.least;
     }

@@ -1,7 +1,7 @@
 use Rattle.std.proofs.Common.{◌∙◌, ap, sym}
 use Rattle.exact_numbers.specs.Values.{frac_value}
-use Rattle.fractions.specs.Rational.{inverse_of}
-use Rattle.fractions.proofs.Arithmetic.{zero-is_zero}
+use Rattle.exact_numbers.specs.Rational.{inverse_of}
+use Rattle.exact_numbers.proofs.RationalLaws.{zero-is_zero}
 use Rattle.linear_fold.specs.InsideOperates.{part_line}
 use Rattle.linear_program.proofs.FracLemmas.{nonzero_test}
 use Rattle.linear_fold.proofs.Operators.{if_ok, quotient_zero, quotient_comes}

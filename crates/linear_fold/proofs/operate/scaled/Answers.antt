@@ -22,4 +22,6 @@ scaled_form-requires-in-Opposite g c = neg_zero_from c.args.variables (form_line
 pub returns-in-Opposite-clause-outcome : goal.returns-in-Opposite-clause-outcome
 returns-in-Opposite-clause-outcome g c =
     rw c.in-Opposite.is
-    (if_ok c.scaled_form-in-Opposite.result _ _ (λ o h. opposite_comes c.args.variables (frac_value c.args.k) (frac_value c.neg.result) (form_line c.in-Opposite.form) o c.neg.ensures h) c.scaled_form-in-Opposite.ensures.outcome)
+    (if_ok c.scaled_form-in-Opposite.result _ _ (λ o h. opposite_comes c.args.variables (frac_value c.args.k)
+    (frac_value c.neg.result) (form_line c.in-Opposite.form) o c.neg.ensures h)
+    c.scaled_form-in-Opposite.ensures.outcome)

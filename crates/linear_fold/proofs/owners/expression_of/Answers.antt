@@ -8,7 +8,8 @@ use Rattle.linear_fold.proofs.owners.expression_of.Goals.{After-index-defs-index
 here : (c : After-index-defs-index) → slice_get c.args.file.now.definitions c.in-Def.index ≡ Some c.index-defs-index.result
 here c =
     let below = subst (HasOwner c.args.file.now) c.in-Def.is c.requires in
-    at_position c.args.file.now.definitions c.defs.result.now c.defs.ensures c.in-Def.index c.index-defs-index.result (subst (λ xs. c.in-Def.index < length xs) (sym c.defs.ensures) below) c.index-defs-index.is
+    at_position c.args.file.now.definitions c.defs.result.now c.defs.ensures c.in-Def.index c.index-defs-index.result
+    (subst (λ xs. c.in-Def.index < length xs) (sym c.defs.ensures) below) c.index-defs-index.is
 
 pub returns-in-Def-clause-tree : goal.returns-in-Def-clause-tree
 returns-in-Def-clause-tree c = rw c.in-Def.is (ap (option_map (λ d. d.tree)) (sym (here c)))

@@ -1,9 +1,9 @@
 use Rattle.std.proofs.Common.{◌≡◌, ◌+◌, ◌<◌, ◌∙◌, ap, sym, subst, arith, length, Some}
-use Rattle.nl_meaning.specs.Trees.{tree_size}
+use Rattle.nl_model.specs.Trees.{tree_size}
 use Rattle.nl_model.specs.declared.at.Owner.TheVariants.{Con}
 use Rattle.nl_model.specs.FilePlaces.{terms_at, tree_at}
-use Rattle.file_meaning.specs.Expressions.{tree_or_zero}
-use Rattle.file_meaning.specs.FoldFaults.{most_coefficients}
+use Rattle.nl_model.specs.Expressions.{tree_or_zero}
+use Rattle.nl_model.specs.FoldFaults.{most_coefficients}
 use Rattle.linear_fold.specs.FoldedFaults.{HasFaultPlace, fault_for, place_after}
 use Rattle.linear_fold.specs.InsideHeldBodies.{IsHeldAt}
 use Rattle.linear_fold.specs.InsideOwnerFolds.{IsFormOf}

@@ -1,7 +1,7 @@
 use Rattle.std.proofs.Common.{sym}
 use Rattle.exact_numbers.specs.Values.{frac_value}
 use Rattle.linear_program.proofs.FracLemmas.{nonzero_test}
-use Rattle.fractions.proofs.Arithmetic.{zero-is_zero}
+use Rattle.exact_numbers.proofs.RationalLaws.{zero-is_zero}
 use Rattle.linear_fold.proofs.parts.constant_of_multiple.Goals as goal
 
 pub returns-then-is_zero-clause-test : goal.returns-then-is_zero-clause-test

@@ -1,6 +1,6 @@
 use Rattle.std.proofs.Common.{◌∙◌, ◌≤◌, ap, arith, length, refl, subst, sym}
 use Rattle.exact_numbers.specs.Values.{frac_value}
-use Rattle.program_meaning.specs.Lines.{Line}
+use Rattle.linear_program.specs.Lines.{Line}
 use Rattle.linear_program.specs.Coefs.{coef_in}
 use Rattle.linear_program.specs.Forms.{form_line}
 use Rattle.linear_fold.proofs.Operators.{multiple_of_zero, multiple_term}

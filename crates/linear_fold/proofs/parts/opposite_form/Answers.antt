@@ -10,7 +10,9 @@ times-requires g c = minus_some (frac_value c.neg.result) (frac_value c.one.resu
 
 pub unreachable-requires : goal.unreachable-requires
 unreachable-requires g c =
-    minus_never c.args.variables (frac_value c.neg.result) (frac_value c.one.result) (form_line c.args.form.now) c.in-Err-Fault.field-0 c.in-Err-Fault.field-0-0 c.neg.ensures c.one.ensures (form_fits c.args.form.now) c.requires c.in-Err-Fault.field-0-is c.in-Err-Fault.ensures.product
+    minus_never c.args.variables (frac_value c.neg.result) (frac_value c.one.result) (form_line c.args.form.now)
+    c.in-Err-Fault.field-0 c.in-Err-Fault.field-0-0 c.neg.ensures c.one.ensures (form_fits c.args.form.now) c.requires
+    c.in-Err-Fault.field-0-is c.in-Err-Fault.ensures.product
 
 pub returns-in-Ok-clause-line : goal.returns-in-Ok-clause-line
 returns-in-Ok-clause-line g c = c.in-Ok.ensures.product.1 ∙ scaled_by_minus (frac_value c.neg.result) (frac_value c.one.result) (form_line c.args.form.now) c.neg.ensures c.one.ensures

@@ -22,7 +22,9 @@ returns-in-Linear-clause-below g c =
 
 pub returns-in-Opposite-clause-sums : goal.returns-in-Opposite-clause-sums
 returns-in-Opposite-clause-sums g c =
-    rw c.in-Opposite.is (adds_opposite (form_line c.args.form.now) (form_line c.in-Opposite.other) (form_line c.add_scaled-in-Opposite.new.self) (frac_value c.args.k) (frac_value c.neg.result) c.add_scaled-in-Opposite.result c.neg.ensures c.add_scaled-in-Opposite.ensures.sums)
+    rw c.in-Opposite.is (adds_opposite (form_line c.args.form.now) (form_line c.in-Opposite.other)
+    (form_line c.add_scaled-in-Opposite.new.self) (frac_value c.args.k) (frac_value c.neg.result)
+    c.add_scaled-in-Opposite.result c.neg.ensures c.add_scaled-in-Opposite.ensures.sums)
 
 pub returns-in-Opposite-clause-below : goal.returns-in-Opposite-clause-below
 returns-in-Opposite-clause-below g c =

@@ -1,6 +1,6 @@
 use Rattle.std.proofs.Common.{◌∙◌, ◌++◌, ap, arith, drop, length, refl, subst, suc}
 use Rattle.exact_numbers.specs.Values.{frac_value}
-use Rattle.fractions.specs.Rational.{ℚ}
+use Rattle.exact_numbers.specs.Rational.{ℚ}
 use Rattle.linear_program.specs.Coefs.{AreAscending}
 use Rattle.linear_program.specs.Forms.{parts_line, terms_left}
 use Rattle.linear_program.proofs.CoefLemmas.{below_from}

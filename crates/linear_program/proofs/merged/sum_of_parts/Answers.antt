@@ -1,8 +1,8 @@
 use Rattle.std.proofs.Common.{◌≡◌, ◌∙◌, List, false, ap, refl, subst, subst₂, sym}
-use Rattle.texts.specs.Stopped.{IfFault}
+use Rattle.text_base.specs.Stopped.{IfFault}
 use Rattle.exact_numbers.specs.Values.{frac_value}
-use Rattle.fractions.specs.Fits.{fits, sum_fits}
-use Rattle.fractions.specs.Rational.{ℚ, ◌+ℚ◌, ◌*ℚ◌}
+use Rattle.exact_numbers.specs.Fits.{fits, sum_fits}
+use Rattle.exact_numbers.specs.Rational.{ℚ, ◌+ℚ◌, ◌*ℚ◌}
 use Rattle.linear_program.specs.Coefs.{Term}
 use Rattle.linear_program.specs.Forms.{AreSummedUp, IsScaledSum, adds_fit, form_line, form_terms, parts_line}
 use Rattle.linear_program.proofs.Merging.{list_stopped, list_summed}

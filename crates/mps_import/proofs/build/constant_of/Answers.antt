@@ -1,5 +1,5 @@
 use Rattle.std.proofs.Common.{◌∙◌, ap}
-use Rattle.fractions.specs.Rational.{neg_ℚ}
+use Rattle.exact_numbers.specs.Rational.{neg_ℚ}
 use Rattle.mps_model.specs.Mps.{rhs_at}
 use Rattle.mps_program.specs.Program.{values_of}
 use Rattle.mps_import.proofs.build.constant_of.Goals as goal

@@ -75,7 +75,9 @@ few c =
 
 pub returns-in_err-sides-clause-fault : goal.returns-in_err-sides-clause-fault
 returns-in_err-sides-clause-fault c =
-    wide_stop c.args.mps.now c.from_residual-in_err-sides.result c.in_err-sides.field-0.0 (few (goal.at.returns-in_err-sides-clause-fault c).In-Some) c.in_err-sides.ensures.fault c.from_residual-in_err-sides.ensures.1
+    wide_stop c.args.mps.now c.from_residual-in_err-sides.result c.in_err-sides.field-0.0
+    (few (goal.at.returns-in_err-sides-clause-fault c).In-Some) c.in_err-sides.ensures.fault
+    c.from_residual-in_err-sides.ensures.1
 
 pub first_empty-requires : goal.first_empty-requires
 first_empty-requires c =
@@ -86,7 +88,10 @@ first_empty-requires c =
 
 pub returns-in-Some-first_empty-clause-fault : goal.returns-in-Some-first_empty-clause-fault
 returns-in-Some-first_empty-clause-fault c =
-    empty_fault c.args.mps.now c.in-Some-first_empty.column (few (goal.at.returns-in-Some-first_empty-clause-fault c).In-Some) c.in_ok-sides.ensures.clean (sym (empty_is c.args.mps.now c.deref-4.result.now (c.deref-4.ensures.value ∙ c.in_ok-columns.ensures.sides)) ∙ sym c.first_empty.ensures ∙ c.in-Some-first_empty.is)
+    empty_fault c.args.mps.now c.in-Some-first_empty.column
+    (few (goal.at.returns-in-Some-first_empty-clause-fault c).In-Some) c.in_ok-sides.ensures.clean
+    (sym (empty_is c.args.mps.now c.deref-4.result.now (c.deref-4.ensures.value ∙ c.in_ok-columns.ensures.sides))
+    ∙ sym c.first_empty.ensures ∙ c.in-Some-first_empty.is)
 
 pub returns-clause-parts : goal.returns-clause-parts
 returns-clause-parts c =
@@ -100,7 +105,9 @@ returns-clause-parts c =
     let terms = terms_counted m c.deref-3.result.now c.deref-2.result.now (c.deref-3.ensures.value ∙ uses) (c.deref-2.ensures.value ∙ order) in
     let slopes = slopes_counted m c.deref-3.result.now c.deref-2.result.now (c.deref-3.ensures.value ∙ uses) (c.deref-2.ensures.value ∙ order) valid.complete.objective in
     record {
-      clean = no_fault m (few (goal.at.returns-clause-parts c).In-Some) c.in_ok-sides.ensures.clean (sym (empty_is m c.deref-4.result.now (c.deref-4.ensures.value ∙ sides)) ∙ sym c.first_empty.ensures ∙ c.in_default-first_empty.is);
+      clean = no_fault m (few (goal.at.returns-clause-parts c).In-Some) c.in_ok-sides.ensures.clean
+          (sym (empty_is m c.deref-4.result.now (c.deref-4.ensures.value ∙ sides)) ∙ sym c.first_empty.ensures
+          ∙ c.in_default-first_empty.is);
       uses = uses;
       objective = c.in_ok-rows.ensures.objective ∙ ap objective_row all;
       sides = c.in_ok-sides.ensures.sides;

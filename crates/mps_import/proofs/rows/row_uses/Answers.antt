@@ -13,8 +13,15 @@ with_one-count-requires c = omega (arith, c.rows.invariant.count, before_small (
 
 pub rows-preserved : goal.rows-preserved
 rows-preserved c =
-    let test : c.is_bounded_kind-is_constraint.result ≡ is_constraint c.args.rows.now c.rows.i = c.is_bounded_kind-is_constraint.ensures ∙ ap (λ (r : MpsRow). is_bounded_kind r.kind) (c.row.view_is ∙ c.index-rows-i.is ∙ get_or_default c.args.rows.now c.rows.i c.index-rows-i.result no_mps_row (omega arith)) in
+    let test : c.is_bounded_kind-is_constraint.result ≡ is_constraint c.args.rows.now c.rows.i =
+    c.is_bounded_kind-is_constraint.ensures ∙ ap (λ (r : MpsRow). is_bounded_kind r.kind)
+    (c.row.view_is ∙ c.index-rows-i.is ∙ get_or_default c.args.rows.now c.rows.i c.index-rows-i.result no_mps_row
+    (omega arith)) in
     record {
-      uses = c.in_ok-push.ensures.items ∙ listed_push (use_of c.args.rows.now) c.rows.i c.rows.uses.items c.row_use-next.result c.rows.invariant.uses (use_is c.args.rows.now c.rows.i c.is_bounded_kind-is_constraint.result (nat_eq c.rows.i c.objective_row-objective.result) c.rows.count c.row_use-next.result c.row_use-next.ensures test c.rows.invariant.count (ap (nat_eq c.rows.i) c.objective_row-objective.ensures));
+      uses = c.in_ok-push.ensures.items ∙ listed_push (use_of c.args.rows.now) c.rows.i c.rows.uses.items
+          c.row_use-next.result c.rows.invariant.uses (use_is c.args.rows.now c.rows.i
+          c.is_bounded_kind-is_constraint.result (nat_eq c.rows.i c.objective_row-objective.result) c.rows.count
+          c.row_use-next.result c.row_use-next.ensures test c.rows.invariant.count
+          (ap (nat_eq c.rows.i) c.objective_row-objective.ensures));
       count = c.with_one-count.ensures ∙ ap₂ (λ n b. n + one_if b) c.rows.invariant.count test ∙ sym (before_more (is_constraint c.args.rows.now) c.rows.i);
     }

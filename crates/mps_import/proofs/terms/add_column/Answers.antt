@@ -21,7 +21,9 @@ use Rattle.mps_import.proofs.terms.add_column.Goals.{After-entries-entries}
 read : (c : After-entries-entries) → AreEntriesAt c.args.mps.now (get_or c.args.order.now c.args.p 0) c.entries-entries.result.now
 read c =
     let inside = column_inside c.args.mps.now c.args.order.now c.args.p c.requires.order c.requires.place in
-    entries_read c.args.mps.now (get_or c.args.order.now c.args.p 0) c.columns-columns.result.now c.index-columns-j.result c.entries-entries.result.now inside c.columns-columns.ensures.value c.index-columns-j.is c.columns-columns.ensures.valid.part.columns.entries c.entries-entries.ensures
+    entries_read c.args.mps.now (get_or c.args.order.now c.args.p 0) c.columns-columns.result.now
+    c.index-columns-j.result c.entries-entries.result.now inside c.columns-columns.ensures.value c.index-columns-j.is
+    c.columns-columns.ensures.valid.part.columns.entries c.entries-entries.ensures
 
 pub bounds-columns-j : goal.bounds-columns-j
 bounds-columns-j c =
@@ -35,7 +37,10 @@ entries-init c =
     let p = c.args.p in
     let j = get_or js p 0 in
     record {
-      way = subst (λ (xs : List (Entry Dec)). IsOnItsWay m (entries_left m p xs (drop (suc p) js)) c.args.builder.now) (sym (read (goal.at.entries-init c).After-entries-entries).same) (column_begun m p j js c.args.builder.now c.requires.place (get_or_default js p 0 j c.requires.place) c.requires.before);
+      way = subst (λ (xs : List (Entry Dec)). IsOnItsWay m (entries_left m p xs (drop (suc p) js)) c.args.builder.now)
+          (sym (read (goal.at.entries-init c).After-entries-entries).same)
+          (column_begun m p j js c.args.builder.now c.requires.place (get_or_default js p 0 j c.requires.place)
+          c.requires.before);
       only = refl;
     }
 
@@ -48,7 +53,12 @@ pub use_at-what-requires : goal.use_at-what-requires
 use_at-what-requires c =
     let m = c.args.mps.now in
     let es = c.entries-entries.result.now in
-    omega (arith, entry_within es c.entries.entry-index c.entry-item.result (omega arith) c.entry-item.is (length m.rows) (read (goal.at.use_at-what-requires c).After-entries-entries).within, use_count m c.args.uses.now c.requires.uses)
+    omega (
+      arith,
+      entry_within es c.entries.entry-index c.entry-item.result (omega arith) c.entry-item.is
+          (length m.rows) (read (goal.at.use_at-what-requires c).After-entries-entries).within,
+      use_count m c.args.uses.now c.requires.uses,
+    )
 
 pub add_entry-requires-clause-variable : goal.add_entry-requires-clause-variable
 unfolding import_counts
@@ -64,8 +74,11 @@ add_entry-requires-clause-can c =
     let j = get_or js p 0 in
     let es = c.entries-entries.result.now in
     let t = c.entry-item.result in
-    let next = next_entry m j p (drop (suc p) js) es c.entries.entry-index t c.args.uses.now c.use_at-what.result c.entries.builder (read (goal.at.add_entry-requires-clause-can c).After-entries-entries) (omega arith) c.entry-item.is c.requires.uses c.use_at-what.ensures c.entries.invariant.way in
-    λ z. there_is_room m c.requires.clean p (entry_of t) (map entry_of (drop (c.entries.entry-index + 1) es)) (drop (suc p) js) c.entries.builder next.way z next.within c.use_at-what.result next.use_is
+    let next = next_entry m j p (drop (suc p) js) es c.entries.entry-index t c.args.uses.now c.use_at-what.result
+    c.entries.builder (read (goal.at.add_entry-requires-clause-can c).After-entries-entries) (omega arith)
+    c.entry-item.is c.requires.uses c.use_at-what.ensures c.entries.invariant.way in
+    λ z. there_is_room m c.requires.clean p (entry_of t) (map entry_of (drop (c.entries.entry-index + 1) es))
+    (drop (suc p) js) c.entries.builder next.way z next.within c.use_at-what.result next.use_is
 
 pub entries-preserved : goal.entries-preserved
 entries-preserved c =
@@ -76,10 +89,16 @@ entries-preserved c =
     let es = c.entries-entries.result.now in
     let t = c.entry-item.result in
     let rest = map entry_of (drop (c.entries.entry-index + 1) es) in
-    let next = next_entry m j p (drop (suc p) js) es c.entries.entry-index t c.args.uses.now c.use_at-what.result c.entries.builder (read (goal.at.entries-preserved c).After-entries-entries) (omega arith) c.entry-item.is c.requires.uses c.use_at-what.ensures c.entries.invariant.way in
+    let next = next_entry m j p (drop (suc p) js) es c.entries.entry-index t c.args.uses.now c.use_at-what.result
+    c.entries.builder (read (goal.at.entries-preserved c).After-entries-entries) (omega arith) c.entry-item.is
+    c.requires.uses c.use_at-what.ensures c.entries.invariant.way in
     record {
-      way = subst (λ (d : Draft). IsOnItsWay m (entries_left m p rest (drop (suc p) js)) d) (sym c.in_ok-add_entry.ensures) (entry_passed m p (entry_of t) rest (drop (suc p) js) c.entries.builder next.way c.use_at-what.result next.use_is next.within);
-      only = still_only c.args.builder.now c.entries.builder c.add_entry.new.builder c.entries.invariant.only (only_terms (is_zero_dec t.1) c.use_at-what.result p t.1 c.entries.builder c.add_entry.new.builder c.in_ok-add_entry.ensures);
+      way = subst (λ (d : Draft). IsOnItsWay m (entries_left m p rest (drop (suc p) js)) d)
+          (sym c.in_ok-add_entry.ensures) (entry_passed m p (entry_of t) rest (drop (suc p) js) c.entries.builder next.way
+          c.use_at-what.result next.use_is next.within);
+      only = still_only c.args.builder.now c.entries.builder c.add_entry.new.builder c.entries.invariant.only
+          (only_terms (is_zero_dec t.1) c.use_at-what.result p t.1 c.entries.builder c.add_entry.new.builder
+          c.in_ok-add_entry.ensures);
     }
 
 pub returns-clause-after : goal.returns-clause-after
@@ -87,4 +106,6 @@ returns-clause-after c =
     let m = c.args.mps.now in
     let js = c.args.order.now in
     let p = c.args.p in
-    column_ended m p js c.entries.builder (subst (λ (ts : List (ℕ × Dec)). IsOnItsWay m (entries_left m p (map entry_of ts) (drop (suc p) js)) c.entries.builder) (drop_all c.entries-entries.result.now c.entries.entry-index (omega arith)) c.entries.invariant.way)
+    column_ended m p js c.entries.builder (subst (λ (ts : List (ℕ × Dec)). IsOnItsWay m
+    (entries_left m p (map entry_of ts) (drop (suc p) js)) c.entries.builder)
+    (drop_all c.entries-entries.result.now c.entries.entry-index (omega arith)) c.entries.invariant.way)

@@ -9,4 +9,6 @@ pub give-requires : goal.give-requires
 give-requires c = omega (arith, entry_within c.args.given.now c.given.entry-index c.entry-item.result (omega arith) c.entry-item.is c.args.count c.requires, c.given.invariant.count)
 
 pub returns-clause-value : goal.returns-clause-value
-returns-clause-value c = λ i lt. sym (or_none (get_or c.given.all.items i None)) ∙ ap (option_or (get_or c.given.all.items i None)) (at_end c.args.given.now c.given.entry-index i (omega arith)) ∙ c.given.invariant.left i lt
+returns-clause-value c = λ i lt. sym (or_none (get_or c.given.all.items i None))
+    ∙ ap (option_or (get_or c.given.all.items i None)) (at_end c.args.given.now c.given.entry-index i (omega arith))
+    ∙ c.given.invariant.left i lt

@@ -1,6 +1,6 @@
 use Rattle.std.proofs.Common.{◌≡◌, ◌+◌, ◌-◌, ◌<◌, ◌∙◌, [], sym, ap, arith, length, refl, rules, subst}
 use Rattle.mps_model.specs.Mps.{objective_row}
-use Rattle.term_batches.specs.Parts.{IsPart}
+use Rattle.linear_program.specs.Parts.{IsPart}
 use Rattle.mps_program.specs.Faults.{is_body_wide}
 use Rattle.mps_program.specs.InsideForms.{AreBodiesOf}
 use Rattle.mps_program.specs.Places.{places}
@@ -11,11 +11,23 @@ use Rattle.mps_program.proofs.forms.forms_of.Goals as goal
 
 pub add_bodies-requires-clause-terms : goal.add_bodies-requires-clause-terms
 add_bodies-requires-clause-terms c =
-    part_terms c.args.mps.now c.args.terms c.requires c.parts.done (c.part_end-end.result - c.parts.done) c.parts.terms c.in_ok-part.part (omega (arith, c.part_end-end.ensures.within, c.part_end-end.ensures.some, ap length c.rows-rows.ensures.value)) c.parts.invariant.later c.in_ok-part.ensures.part
+    part_terms c.args.mps.now c.args.terms c.requires c.parts.done (c.part_end-end.result - c.parts.done) c.parts.terms
+    c.in_ok-part.part (omega (
+      arith,
+      c.part_end-end.ensures.within,
+      c.part_end-end.ensures.some,
+      ap length c.rows-rows.ensures.value,
+    )) c.parts.invariant.later c.in_ok-part.ensures.part
 
 pub next_objective-requires-clause-terms : goal.next_objective-requires-clause-terms
 next_objective-requires-clause-terms c =
-    part_terms c.args.mps.now c.args.terms c.requires c.parts.done (c.part_end-end.result - c.parts.done) c.parts.terms c.in_ok-part.part (omega (arith, c.part_end-end.ensures.within, c.part_end-end.ensures.some, ap length c.rows-rows.ensures.value)) c.parts.invariant.later c.in_ok-part.ensures.part
+    part_terms c.args.mps.now c.args.terms c.requires c.parts.done (c.part_end-end.result - c.parts.done) c.parts.terms
+    c.in_ok-part.part (omega (
+      arith,
+      c.part_end-end.ensures.within,
+      c.part_end-end.ensures.some,
+      ap length c.rows-rows.ensures.value,
+    )) c.parts.invariant.later c.in_ok-part.ensures.part
 
 pub next_objective-requires-clause-place : goal.next_objective-requires-clause-place
 next_objective-requires-clause-place c = c.objective_row-place.ensures ∙ ap objective_row c.rows-rows.ensures.value
@@ -52,4 +64,6 @@ take_part-requires c =
     subst (λ n. IsPart n c.parts.done (c.part_end-end.result - c.parts.done)) size (c.part_end-end.ensures.part (c.parts.invariant.start c.parts-test.true))
 
 pub returns-clause-bodies : goal.returns-clause-bodies
-returns-clause-bodies c = bodies_end c.args.mps.now c.parts.done c.parts.bodies.items (omega (arith, c.parts.invariant.within, c.parts-test.false, ap length c.rows-rows.ensures.value)) c.parts.invariant.bodies
+returns-clause-bodies c = bodies_end c.args.mps.now c.parts.done c.parts.bodies.items
+    (omega (arith, c.parts.invariant.within, c.parts-test.false, ap length c.rows-rows.ensures.value))
+    c.parts.invariant.bodies

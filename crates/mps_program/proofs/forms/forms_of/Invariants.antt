@@ -4,7 +4,7 @@ use Rattle.mps_program.specs.InsideForms.{AreBodiesOf, IsObjectiveOf}
 use Rattle.mps_program.specs.Places.{places}
 use Rattle.mps_program.specs.Program.{is_constraint}
 use Rattle.mps_program.specs.Terms.{row_terms}
-use Rattle.term_batches.specs.Parts.{AreLater}
+use Rattle.linear_program.specs.Parts.{AreLater}
 use Rattle.mps_program.proofs.forms.forms_of.Given as goal
 
 abbrev pub invariant-parts : goal.invariant-parts

@@ -1,8 +1,8 @@
 use Rattle.std.proofs.Common.{◌∙◌, ap₂, refl}
-use Rattle.fractions.specs.Rational.{zero_ℚ, one_ℚ, ◌+ℚ◌, ◌*ℚ◌}
-use Rattle.fractions.specs.Sums.{sum_over}
-use Rattle.fractions.proofs.Arithmetic.{*ℚ_one, +ℚ_zero, zero-+ℚ}
-use Rattle.program_meaning.specs.Elements.{elements_from}
+use Rattle.exact_numbers.specs.Rational.{zero_ℚ, one_ℚ, ◌+ℚ◌, ◌*ℚ◌}
+use Rattle.exact_numbers.specs.Sums.{sum_over}
+use Rattle.exact_numbers.proofs.RationalLaws.{*ℚ_one, +ℚ_zero, zero-+ℚ}
+use Rattle.linear_program.specs.Elements.{elements_from}
 use Rattle.mps_model.specs.Mps.{at_row, has_whole_record, objective_row, part_of_row}
 use Rattle.mps_program.specs.Places.{places}
 use Rattle.mps_program.specs.Program.{constraints, linear_of}

@@ -27,7 +27,12 @@ returns-in_err-sides-clause-fault c =
 pub first_empty-requires : goal.first_empty-requires
 first_empty-requires c =
     let m = c.args.mps.now in
-    omega (arith, ap length (c.deref.ensures.value ∙ c.in_ok-columns.ensures.sides), listed_length (λ j. sides_from (column_interval (values_of m) j)) (length m.columns), c.is_too_large.ensures.valid.part.columns.few)
+    omega (
+      arith,
+      ap length (c.deref.ensures.value ∙ c.in_ok-columns.ensures.sides),
+      listed_length (λ j. sides_from (column_interval (values_of m) j)) (length m.columns),
+      c.is_too_large.ensures.valid.part.columns.few,
+    )
 
 pub returns-in-Some-clause-fault : goal.returns-in-Some-clause-fault
 returns-in-Some-clause-fault c =
@@ -57,13 +62,19 @@ clean c =
 
 pub of_parts-requires : goal.of_parts-requires
 of_parts-requires c =
-    is_linear c.args.mps.now c.is_too_large.ensures.valid.part.columns.entries (clean (goal.at.of_parts-requires c).After-maximise) c.in_ok-forms.forms.bodies.items c.in_ok-forms.forms.objective c.maximise.result c.in_ok-sides.sides.items c.in_ok-columns.columns.sides.items c.in_ok-columns.columns.kinds.items
+    is_linear c.args.mps.now c.is_too_large.ensures.valid.part.columns.entries
+    (clean (goal.at.of_parts-requires c).After-maximise) c.in_ok-forms.forms.bodies.items
+    c.in_ok-forms.forms.objective c.maximise.result c.in_ok-sides.sides.items c.in_ok-columns.columns.sides.items
+    c.in_ok-columns.columns.kinds.items
     c.in_ok-forms.ensures.bodies c.in_ok-forms.ensures.objective.1 c.maximise.ensures c.in_ok-sides.ensures.sides c.in_ok-columns.ensures.sides c.in_ok-columns.ensures.kinds
 
 pub returns-clause-linear : goal.returns-clause-linear
 returns-clause-linear c =
     ap linear_value c.of_parts.ensures
-    ∙ is_program c.args.mps.now c.is_too_large.ensures.valid.part.columns.entries (clean (goal.at.returns-clause-linear c).After-maximise) c.in_ok-forms.forms.bodies.items c.in_ok-forms.forms.objective c.maximise.result c.in_ok-sides.sides.items c.in_ok-columns.columns.sides.items c.in_ok-columns.columns.kinds.items
+    ∙ is_program c.args.mps.now c.is_too_large.ensures.valid.part.columns.entries
+    (clean (goal.at.returns-clause-linear c).After-maximise) c.in_ok-forms.forms.bodies.items
+    c.in_ok-forms.forms.objective c.maximise.result c.in_ok-sides.sides.items c.in_ok-columns.columns.sides.items
+    c.in_ok-columns.columns.kinds.items
     c.in_ok-forms.ensures.bodies c.in_ok-forms.ensures.objective.1 c.maximise.ensures c.in_ok-sides.ensures.sides c.in_ok-columns.ensures.sides c.in_ok-columns.ensures.kinds
 
 pub returns-clause-clean : goal.returns-clause-clean

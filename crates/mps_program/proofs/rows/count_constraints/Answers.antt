@@ -11,7 +11,10 @@ with_one-count-requires c = omega (arith, c.rows.invariant, before_small (is_con
 
 pub rows-preserved : goal.rows-preserved
 rows-preserved c =
-    let test : c.is_bounded_kind.result ≡ is_constraint c.args.rows.now c.rows.row-index = c.is_bounded_kind.ensures ∙ ap (λ (r : MpsRow). is_bounded_kind r.kind) (c.row.view_is ∙ c.row-item.is ∙ get_or_default c.args.rows.now c.rows.row-index c.row-item.result no_mps_row (omega arith)) in
+    let test : c.is_bounded_kind.result ≡ is_constraint c.args.rows.now c.rows.row-index =
+    c.is_bounded_kind.ensures ∙ ap (λ (r : MpsRow). is_bounded_kind r.kind)
+    (c.row.view_is ∙ c.row-item.is ∙ get_or_default c.args.rows.now c.rows.row-index c.row-item.result no_mps_row
+    (omega arith)) in
     c.with_one-count.ensures ∙ ap₂ (λ n b. n + one_if b) c.rows.invariant test ∙ sym (before_more (is_constraint c.args.rows.now) c.rows.row-index)
 
 pub returns : goal.returns

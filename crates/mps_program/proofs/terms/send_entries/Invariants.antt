@@ -8,5 +8,7 @@ use Rattle.mps_program.proofs.terms.send_entries.Given as goal
 abbrev pub invariant-entries : goal.invariant-entries
 invariant-entries l = record {
   count : length l.terms ≡ length l.initial.terms;
-  left : (i : ℕ) (after : List DecimalTerm) → i < length l.initial.terms → get_or l.terms i [] ++ (filter_map (term_of i l.column) (map entry_of (drop l.entry-index l.entries)) ++ after) ≡ get_or l.initial.terms i [] ++ (filter_map (term_of i l.column) (map entry_of l.entries) ++ after);
+  left : (i : ℕ) (after : List DecimalTerm) → i < length l.initial.terms
+      → get_or l.terms i [] ++ (filter_map (term_of i l.column) (map entry_of (drop l.entry-index l.entries)) ++ after)
+      ≡ get_or l.initial.terms i [] ++ (filter_map (term_of i l.column) (map entry_of l.entries) ++ after);
 }

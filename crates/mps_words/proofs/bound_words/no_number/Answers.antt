@@ -1,4 +1,4 @@
-use Rattle.fractions.specs.Rational.{zero_ℚ}
+use Rattle.exact_numbers.specs.Rational.{zero_ℚ}
 use Rattle.exact_numbers.proofs.NumberLemmas.{dec_from-value}
 use Rattle.mps_words.proofs.bound_words.no_number.Goals as goal
 

@@ -5,4 +5,6 @@ use Rattle.mps_words.proofs.codes.first_short.Goals as goal
 
 pub returns : goal.returns
 returns c =
-    short_name c.args.text.now c.split_at.result.1.now c.in-Some.head c.size_before-size.result c.args.end _ (are_bytes c.args.text.now c.type_inv.text) c.in-Some.ensures.long c.in-Some.ensures.value c.if-size-gt-SHORT.false c.if-both-end.false c.split_at.ensures.back refl
+    short_name c.args.text.now c.split_at.result.1.now c.in-Some.head c.size_before-size.result c.args.end _
+    (are_bytes c.args.text.now c.type_inv.text) c.in-Some.ensures.long c.in-Some.ensures.value
+    c.if-size-gt-SHORT.false c.if-both-end.false c.split_at.ensures.back refl

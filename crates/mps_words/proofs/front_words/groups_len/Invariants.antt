@@ -1,5 +1,5 @@
 use Rattle.std.proofs.Common.{◌≡◌, ◌≤◌, length, drop, take, true}
-use Rattle.texts.specs.Names.{has_name_bytes}
+use Rattle.text_base.specs.Names.{has_name_bytes}
 use Rattle.mps_words.proofs.front_words.groups_len.Given as goal
 
 -- the groups so far may stand in a name

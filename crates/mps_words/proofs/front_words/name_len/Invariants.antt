@@ -1,5 +1,5 @@
 use Rattle.std.proofs.Common.{◌≡◌, ◌≤◌, ◌-◌, length, take, true}
-use Rattle.texts.specs.Names.{has_name_bytes}
+use Rattle.text_base.specs.Names.{has_name_bytes}
 use Rattle.mps_words.proofs.front_words.name_len.Given as goal
 
 -- the bytes so far may stand in a name

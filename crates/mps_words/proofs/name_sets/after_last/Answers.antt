@@ -1,6 +1,6 @@
 use Rattle.std.proofs.Common.{◌≡◌, ◌∙◌, ◌++◌, List, ℕ, IfSome, ap, subst, sym}
 use Rattle.std.specs.Option.{option_copied}
-use Rattle.texts.proofs.NamePlaces.{texts_of}
+use Rattle.text_base.proofs.NamePlaces.{texts_of}
 use Rattle.mps_words.specs.Names.{last_name}
 use Rattle.mps_words.proofs.NameLemmas.{last_key}
 use Rattle.mps_words.proofs.name_sets.after_last.Goals as goal

@@ -1,7 +1,7 @@
 use Rattle.std.proofs.Common.{refl, ◌≡◌, ◌∙◌, ap, false, ◌++◌, ◌∷◌, []}
 use Rattle.std.specs.List.{list_any}
 use Rattle.std.specs.Str.{bytes_eq}
-use Rattle.texts.proofs.NamePlaces.{texts_of, new_name, texts_of-push}
+use Rattle.text_base.proofs.NamePlaces.{texts_of, new_name, texts_of-push}
 use Rattle.mps_words.proofs.name_sets.insert_new.Goals as goal
 
 pub returns-clause-keys : goal.returns-clause-keys

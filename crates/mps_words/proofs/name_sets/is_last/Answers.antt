@@ -3,7 +3,7 @@ use Rattle.std.specs.Option.{option_copied}
 use Rattle.std.specs.Str.{bytes_eq}
 use Rattle.mps_words.specs.Names.{last_name}
 use Rattle.mps_words.proofs.NameLemmas.{last_key, no_key, no_bytes}
-use Rattle.texts.proofs.NamePlaces.{texts_of}
+use Rattle.text_base.proofs.NamePlaces.{texts_of}
 use Rattle.mps_words.proofs.name_sets.is_last.Goals as goal
 
 pub returns-in-Some : goal.returns-in-Some

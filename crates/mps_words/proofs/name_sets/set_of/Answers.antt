@@ -1,5 +1,5 @@
 use Rattle.std.proofs.Common.{◌∙◌, ap₂, List, ℕ}
-use Rattle.texts.specs.Names.{place_of}
+use Rattle.text_base.specs.Names.{place_of}
 use Rattle.mps_words.proofs.CodeLemmas.{new_behind}
 use Rattle.mps_words.proofs.name_sets.set_of.Goals as goal
 

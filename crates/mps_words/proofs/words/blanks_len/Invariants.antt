@@ -1,6 +1,6 @@
 use Rattle.std.proofs.Common.{◌≡◌, ◌+◌, length, not}
 use Rattle.std.specs.List.{position_or_len}
-use Rattle.texts.specs.Words.{is_blank}
+use Rattle.text_base.specs.Words.{is_blank}
 use Rattle.mps_words.proofs.words.blanks_len.Given as goal
 
 -- the first byte that is no blank is the first of what is left

@@ -1,6 +1,6 @@
 use Rattle.std.proofs.Common.{◌≡◌, ◌+◌, length}
 use Rattle.std.specs.List.{position_or_len}
-use Rattle.texts.specs.Words.{is_blank}
+use Rattle.text_base.specs.Words.{is_blank}
 use Rattle.mps_words.proofs.words.word_len.Given as goal
 
 -- the first blank is the first of what is left

@@ -1,6 +1,6 @@
 use Rattle.std.proofs.Common.{◌≡◌, ◌++◌, map, take}
 use Rattle.exact_numbers.specs.Values.{text_of}
-use Rattle.texts.specs.WordLines.{lines_text}
+use Rattle.text_base.specs.WordLines.{lines_text}
 use Rattle.mps_model.specs.Text.{bound_line}
 use Rattle.mps_model.specs.Built.{bound_of}
 use Rattle.mps_writer.proofs.bounds.put_bound_lines.Given as goal

@@ -1,6 +1,6 @@
 use Rattle.std.proofs.Common.{◌≡◌, ◌≤◌, ◌++◌, drop, false}
 use Rattle.exact_numbers.specs.Values.{text_of}
-use Rattle.texts.specs.WordLines.{lines_text}
+use Rattle.text_base.specs.WordLines.{lines_text}
 use Rattle.mps_model.specs.Text.{column_lines}
 use Rattle.mps_writer.proofs.columns.put_columns.Given as goal
 

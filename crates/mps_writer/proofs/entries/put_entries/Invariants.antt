@@ -1,6 +1,6 @@
 use Rattle.std.proofs.Common.{◌≡◌, ◌++◌, map, take}
 use Rattle.exact_numbers.specs.Values.{text_of}
-use Rattle.texts.specs.WordLines.{lines_text}
+use Rattle.text_base.specs.WordLines.{lines_text}
 use Rattle.mps_model.specs.Text.{entry_lines}
 use Rattle.mps_model.specs.Built.{entry_of}
 use Rattle.mps_writer.proofs.entries.put_entries.Given as goal

@@ -7,5 +7,7 @@ use Rattle.name_files.proofs.renaming.add_bounds.Goals as goal
 pub add_bound-requires : goal.add_bound-requires
 add_bound-requires c =
     can_add_bound (map bound_of c.args.bounds.now) c.loop-bound.bound-index (bound_of c.bound-item.result) c.loop-bound.builder (rw c.loop-bound.invariant c.requires.valid)
-    (within_mapped bound_of c.args.bounds.now c.loop-bound.bound-index c.bound-item.result (omega arith) c.bound-item.is) (at_mapped bound_of c.args.bounds.now c.loop-bound.bound-index c.bound-item.result (omega arith) c.bound-item.is)
+    (within_mapped bound_of c.args.bounds.now c.loop-bound.bound-index c.bound-item.result (omega arith)
+    c.bound-item.is) (at_mapped bound_of c.args.bounds.now c.loop-bound.bound-index c.bound-item.result
+    (omega arith) c.bound-item.is)
     (rw c.loop-bound.invariant (sym (take-map bound_of c.loop-bound.bound-index c.args.bounds.now)))

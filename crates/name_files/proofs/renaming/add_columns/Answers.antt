@@ -1,6 +1,6 @@
 use Rattle.std.proofs.Common.{◌∙◌, ap, sym, subst, arith, length, List, ℕ}
-use Rattle.program_meaning.specs.Names.{variable_name}
-use Rattle.texts.specs.Names.{IsName}
+use Rattle.linear_program.specs.Names.{variable_name}
+use Rattle.text_base.specs.Names.{IsName}
 use Rattle.mps_model.specs.Mps.{Mps, Column}
 use Rattle.exact_numbers.specs.declared.dec.Dec.{Dec}
 use Rattle.name_files.specs.Renamed.{new_name, named_column}
@@ -14,7 +14,9 @@ new_name-requires-clause-named c =
     let x = c.column-item.result in
     let f : List ℕ → List ℕ = new_name variable_name c.args.names.now in
     subst (λ (t : List ℕ). IsName (f t)) (sym (c.bytes.ensures.value ∙ c.name.ensures))
-    (subst (λ (y : Column Dec). IsName y.name) (sym (at_mapped (named_column f) xs i x (omega arith) c.column-item.is)) (c.requires.valid.named i (named_column f x) (within_mapped (named_column f) xs i x (omega arith) c.column-item.is)))
+    (subst (λ (y : Column Dec). IsName y.name) (sym (at_mapped (named_column f) xs i x (omega arith) c.column-item.is))
+    (c.requires.valid.named i (named_column f x) (within_mapped (named_column f) xs i x (omega arith)
+    c.column-item.is)))
 
 pub add_column-requires : goal.add_column-requires
 add_column-requires c =

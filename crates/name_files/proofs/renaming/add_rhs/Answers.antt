@@ -7,5 +7,6 @@ use Rattle.name_files.proofs.renaming.add_rhs.Goals as goal
 pub add_rhs-requires : goal.add_rhs-requires
 add_rhs-requires c =
     can_add_rhs (map entry_of c.args.rhs.now) c.loop-entry.entry-index (entry_of c.entry-item.result) c.loop-entry.builder (rw c.loop-entry.invariant c.requires.valid)
-    (within_mapped entry_of c.args.rhs.now c.loop-entry.entry-index c.entry-item.result (omega arith) c.entry-item.is) (at_mapped entry_of c.args.rhs.now c.loop-entry.entry-index c.entry-item.result (omega arith) c.entry-item.is)
+    (within_mapped entry_of c.args.rhs.now c.loop-entry.entry-index c.entry-item.result (omega arith) c.entry-item.is)
+    (at_mapped entry_of c.args.rhs.now c.loop-entry.entry-index c.entry-item.result (omega arith) c.entry-item.is)
     (rw c.loop-entry.invariant (sym (take-map entry_of c.loop-entry.entry-index c.args.rhs.now)))

@@ -1,7 +1,7 @@
 use Rattle.std.proofs.Common.{◌∙◌, ap, sym, subst, arith, List, ℕ}
 use Rattle.std.proofs.lemmas.List.{take-map}
-use Rattle.program_meaning.specs.Names.{row_name}
-use Rattle.texts.specs.Names.{IsName}
+use Rattle.linear_program.specs.Names.{row_name}
+use Rattle.text_base.specs.Names.{IsName}
 use Rattle.mps_model.specs.Mps.{Mps, MpsRow}
 use Rattle.mps_model.specs.Built.{CanAddRow}
 use Rattle.exact_numbers.specs.declared.dec.Dec.{Dec}
@@ -16,7 +16,8 @@ new_name-requires-clause-named c =
     let r = c.row-item.result in
     let f : List ℕ → List ℕ = new_name row_name c.args.names.now in
     subst (λ (t : List ℕ). IsName (f t)) (sym (c.bytes.ensures.value ∙ ap (λ (r : MpsRow). r.name) c.row.view_is))
-    (subst (λ (s : MpsRow). IsName s.name) (sym (at_mapped (named_row f) xs i r (omega arith) c.row-item.is)) (c.requires.valid.named i (named_row f r) (within_mapped (named_row f) xs i r (omega arith) c.row-item.is)))
+    (subst (λ (s : MpsRow). IsName s.name) (sym (at_mapped (named_row f) xs i r (omega arith) c.row-item.is))
+    (c.requires.valid.named i (named_row f r) (within_mapped (named_row f) xs i r (omega arith) c.row-item.is)))
 
 pub add_row-requires : goal.add_row-requires
 add_row-requires c =

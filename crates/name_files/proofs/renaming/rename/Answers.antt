@@ -4,7 +4,9 @@ use Rattle.name_files.proofs.ValidLemmas.{parts_named, complete_named}
 use Rattle.name_files.proofs.renaming.rename.Goals as goal
 
 pub add_rows-requires-clause-valid : goal.add_rows-requires-clause-valid
-add_rows-requires-clause-valid c = rw c.rows.ensures.value (parts_named c.args.mps.now c.args.rows.now c.args.columns.now c.len-row_names.ensures.valid c.len-column_names.ensures.valid c.requires c.rows.ensures.valid.part).rows
+add_rows-requires-clause-valid c = rw c.rows.ensures.value (parts_named c.args.mps.now c.args.rows.now
+    c.args.columns.now c.len-row_names.ensures.valid c.len-column_names.ensures.valid c.requires
+    c.rows.ensures.valid.part).rows
 
 pub add_columns-requires-clause-valid : goal.add_columns-requires-clause-valid
 add_columns-requires-clause-valid c =
@@ -29,11 +31,40 @@ add_bounds-requires-clause-valid c =
 pub finish-requires : goal.finish-requires
 unfolding with_names
 finish-requires c =
-    rw (c.in_ok-add_bounds.ensures, c.in_ok-add_ranges.ensures, c.in_ok-add_rhs.ensures, c.in_ok-add_columns.ensures, c.in_ok-add_rows.ensures, c.new-builder.ensures, c.in_ok-own_name.ensures, c.maximise.ensures, c.rows.ensures.value, c.columns.ensures.value, c.rhs.ensures.value, c.ranges-2.ensures.value, c.bounds.ensures.value)
+    rw (
+      c.in_ok-add_bounds.ensures,
+      c.in_ok-add_ranges.ensures,
+      c.in_ok-add_rhs.ensures,
+      c.in_ok-add_columns.ensures,
+      c.in_ok-add_rows.ensures,
+      c.new-builder.ensures,
+      c.in_ok-own_name.ensures,
+      c.maximise.ensures,
+      c.rows.ensures.value,
+      c.columns.ensures.value,
+      c.rhs.ensures.value,
+      c.ranges-2.ensures.value,
+      c.bounds.ensures.value,
+    )
     (complete_named c.args.mps.now c.args.rows.now c.args.columns.now c.rows.ensures.valid.complete)
 
 pub returns : goal.returns
 unfolding with_names
 returns c =
-    rw (c.finish.ensures, c.in_ok-add_bounds.ensures, c.in_ok-add_ranges.ensures, c.in_ok-add_rhs.ensures, c.in_ok-add_columns.ensures, c.in_ok-add_rows.ensures, c.new-builder.ensures, c.in_ok-own_name.ensures, c.maximise.ensures, c.rows.ensures.value, c.columns.ensures.value, c.rhs.ensures.value, c.ranges-2.ensures.value, c.bounds.ensures.value)
+    rw (
+      c.finish.ensures,
+      c.in_ok-add_bounds.ensures,
+      c.in_ok-add_ranges.ensures,
+      c.in_ok-add_rhs.ensures,
+      c.in_ok-add_columns.ensures,
+      c.in_ok-add_rows.ensures,
+      c.new-builder.ensures,
+      c.in_ok-own_name.ensures,
+      c.maximise.ensures,
+      c.rows.ensures.value,
+      c.columns.ensures.value,
+      c.rhs.ensures.value,
+      c.ranges-2.ensures.value,
+      c.bounds.ensures.value,
+    )
     refl

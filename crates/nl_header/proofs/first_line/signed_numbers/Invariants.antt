@@ -1,5 +1,5 @@
 use Rattle.std.proofs.Common.{◌≡◌, ◌≤◌, length, take, filter_map}
-use Rattle.texts.specs.Words.{texts}
+use Rattle.text_base.specs.Words.{texts}
 use Rattle.exact_numbers.specs.Numbers.{signed_of}
 use Rattle.nl_header.proofs.first_line.signed_numbers.Given as goal
 

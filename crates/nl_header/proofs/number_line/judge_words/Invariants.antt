@@ -1,5 +1,5 @@
 use Rattle.std.proofs.Common.{◌≡◌, ◌<◌, ◌≤◌}
-use Rattle.texts.specs.Words.{words_of}
+use Rattle.text_base.specs.Words.{words_of}
 use Rattle.nl_header.specs.Head.{words_fault}
 use Rattle.nl_header.proofs.number_line.judge_words.Given as goal
 

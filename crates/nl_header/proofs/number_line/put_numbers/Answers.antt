@@ -1,6 +1,6 @@
 use Rattle.std.proofs.Common.{slice_index_or, ◌∙◌, sym, arith}
 use Rattle.std.proofs.lemmas.List.{length-set}
-use Rattle.texts.specs.Words.{texts}
+use Rattle.text_base.specs.Words.{texts}
 use Rattle.nl_header.specs.Head.{no_field_row, number_after}
 use Rattle.nl_header.proofs.HeadLemmas.{set-done, set-rest, put_in-each}
 use Rattle.nl_header.proofs.number_line.put_numbers.Goals as goal

@@ -1,5 +1,5 @@
 use Rattle.std.proofs.Common.{◌≡◌, ℕ, ◌<◌, ◌≤◌, length, slice_index, slice_index_or}
-use Rattle.texts.specs.Words.{texts}
+use Rattle.text_base.specs.Words.{texts}
 use Rattle.nl_header.specs.Head.{no_field_row, number_after}
 use Rattle.nl_header.proofs.number_line.put_numbers.Given as goal
 

@@ -7,5 +7,7 @@ use Rattle.nl_lines.proofs.front_leaves.opcode_after.Goals as goal
 
 pub returns : goal.returns
 returns c =
-    letter_row whole_of c.in-Some.opcode.number c.args.rest.now c.in-Some.opcode.len 111 (λ words. IsLeafRow words (Opcode c.in-Some.opcode.number)) (omega arith) (λ words row. omega (arith, row.0.one)) c.in-Some.ensures
+    letter_row whole_of c.in-Some.opcode.number c.args.rest.now c.in-Some.opcode.len 111
+    (λ words. IsLeafRow words (Opcode c.in-Some.opcode.number)) (omega arith) (λ words row. omega (arith, row.0.one))
+    c.in-Some.ensures
     (λ word e. (record { one = refl; first = refl }, e))

@@ -7,5 +7,7 @@ use Rattle.nl_lines.proofs.front_leaves.variable_after.Goals as goal
 
 pub returns : goal.returns
 returns c =
-    letter_row whole_of c.in-Some.index.number c.args.rest.now c.in-Some.index.len 118 (λ words. IsLeafRow words (Variable c.in-Some.index.number)) (omega arith) (λ words row. omega (arith, row.0.one)) c.in-Some.ensures
+    letter_row whole_of c.in-Some.index.number c.args.rest.now c.in-Some.index.len 118
+    (λ words. IsLeafRow words (Variable c.in-Some.index.number)) (omega arith) (λ words row. omega (arith, row.0.one))
+    c.in-Some.ensures
     (λ word e. (record { one = refl; first = refl }, e))

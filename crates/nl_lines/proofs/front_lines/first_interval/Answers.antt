@@ -7,4 +7,6 @@ returns-then-text-eq10 c = free_line c.args.text.now (omega (arith, c.if-text-lt
 
 pub returns : goal.returns
 returns c =
-    kind_line c.args.text.now c.split_at.result.1.now (get_or c.args.text.now 0 0) c.in-Some.numbers.len c.in-Some.numbers.interval (omega (arith, c.if-text-lt2.false)) refl c.if-text-ne32.false c.split_at.ensures.back c.in-Some.ensures
+    kind_line c.args.text.now c.split_at.result.1.now (get_or c.args.text.now 0 0) c.in-Some.numbers.len
+    c.in-Some.numbers.interval (omega (arith, c.if-text-lt2.false)) refl c.if-text-ne32.false c.split_at.ensures.back
+    c.in-Some.ensures

@@ -6,4 +6,6 @@ use Rattle.nl_lines.proofs.front_lines.side_after.Goals as goal
 
 pub returns : goal.returns
 returns c =
-    alone 40 c.args.rest.now c.in-Some.number.len (λ word. dec_of word ≡ Some c.in-Some.number.value) (λ words. IsIntervalRow ((c.args.kind ∷ []) ∷ words) c.in-Some-one_sided.interval) (omega arith) c.in-Some.ensures c.in-Some-one_sided.ensures
+    alone 40 c.args.rest.now c.in-Some.number.len (λ word. dec_of word ≡ Some c.in-Some.number.value)
+    (λ words. IsIntervalRow ((c.args.kind ∷ []) ∷ words) c.in-Some-one_sided.interval) (omega arith) c.in-Some.ensures
+    c.in-Some-one_sided.ensures

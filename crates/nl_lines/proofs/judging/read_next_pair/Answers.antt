@@ -7,11 +7,15 @@ returns-in-Err c = read_fault c.args.counts.now c.args.head c.args.marks.now c.a
 
 pub returns-then-is_repeated : goal.returns-then-is_repeated
 returns-then-is_repeated c =
-    read_repeated c.args.counts.now c.args.head c.args.marks.now c.args.full _ _ _ c.index_limit.ensures c.wants_whole.ensures c.in-Ok.pair c.in-Ok.ensures.0 c.in-Ok.ensures.1.0 (sym c.is_repeated.ensures ∙ c.if-is_repeated.true)
+    read_repeated c.args.counts.now c.args.head c.args.marks.now c.args.full _ _ _ c.index_limit.ensures
+    c.wants_whole.ensures c.in-Ok.pair c.in-Ok.ensures.0 c.in-Ok.ensures.1.0
+    (sym c.is_repeated.ensures ∙ c.if-is_repeated.true)
 
 pub returns-then-full : goal.returns-then-full
 returns-then-full c =
-    read_full c.args.counts.now c.args.head c.args.marks.now c.args.full _ _ _ c.index_limit.ensures c.wants_whole.ensures c.in-Ok.pair c.in-Ok.ensures.0 c.in-Ok.ensures.1.0 (sym c.is_repeated.ensures ∙ c.if-is_repeated.false) c.if-full.true
+    read_full c.args.counts.now c.args.head c.args.marks.now c.args.full _ _ _ c.index_limit.ensures
+    c.wants_whole.ensures c.in-Ok.pair c.in-Ok.ensures.0 c.in-Ok.ensures.1.0
+    (sym c.is_repeated.ensures ∙ c.if-is_repeated.false) c.if-full.true
 
 pub returns : goal.returns
 returns c =

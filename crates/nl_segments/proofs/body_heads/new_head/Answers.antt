@@ -1,6 +1,6 @@
 use Rattle.std.proofs.Common.{◌≡◌, ◌∙◌, sym, ap, subst, Some, None}
-use Rattle.texts.specs.Judged.{first_reason}
-use Rattle.texts.specs.Words.{texts}
+use Rattle.text_base.specs.Judged.{first_reason}
+use Rattle.text_base.specs.Words.{texts}
 use Rattle.nl_segments.specs.InsideHeadSteps.{held_head_tests}
 use Rattle.nl_lines.specs.Heads.{head_of}
 use Rattle.nl_lines.specs.Tests.{head_form_tests}

@@ -43,6 +43,7 @@ lines-preserved c =
       few = omega (arith, c.lines-test.true);
       within = omega (arith, c.lines.invariant.within, first.first.within, length-drop c.lines.front.len c.args.piece.now);
       takes = λ b cur number is.
-          interval_taken c.args.builder.now c.lines.builder c.add_interval.new.builder c.args.of_constraint c.args.left b cur number c.args.piece.now c.lines.front c.in-Some.line.len i is c.lines-test.true
+          interval_taken c.args.builder.now c.lines.builder c.add_interval.new.builder c.args.of_constraint c.args.left
+          b cur number c.args.piece.now c.lines.front c.in-Some.line.len i is c.lines-test.true
           (c.lines.invariant.takes b cur number is) first fine c.in-Ok.ensures.ok;
     }

@@ -15,7 +15,8 @@ invariant-lines l = record {
   binary : (j : ℕ) → is_binary (variable_kind l.fn.builder.counts j) ≡ (nat_le l.binaries.first j && nat_lt j l.binaries.end);
   few : l.front.lines ≤ l.left;
   within : l.front.len ≤ length l.piece;
-  takes : (b : Body) (cur : Current) (number : ℕ) → AwaitsIntervals l.fn.builder l.of_constraint l.left b cur → TakesLines b l.piece number l.front (with_lines b l.builder b.columns cur l.front.lines);
+  takes : (b : Body) (cur : Current) (number : ℕ) → AwaitsIntervals l.fn.builder l.of_constraint l.left b cur
+      → TakesLines b l.piece number l.front (with_lines b l.builder b.columns cur l.front.lines);
 }
 
 abbrev pub decreases-lines : goal.decreases-lines

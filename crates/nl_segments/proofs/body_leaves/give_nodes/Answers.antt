@@ -2,7 +2,7 @@ use Rattle.std.proofs.Common.{◌+◌, ◌<◌, ◌^◌, arith, drop, subst, sym
 use Rattle.std.specs.Prelude.{All, Ok}
 use Rattle.nl_lines.specs.NodeRows.{IsNodeKnown}
 use Rattle.std.proofs.lemmas.List.{length-drop}
-use Rattle.texts.specs.Judged.{Decides}
+use Rattle.text_base.specs.Judged.{Decides}
 use Rattle.nl_lines.specs.FirstRows.{IsFirstRow}
 use Rattle.nl_lines.specs.Leaves.{IsLeafRow}
 use Rattle.nl_model.specs.Nodes.{awaited}
@@ -42,13 +42,17 @@ pub push-requires-clause-few : goal.push-requires-clause-few
 push-requires-clause-few c =
     let d = (goal.at.push-requires-clause-few c).In-Whole in
     let h = c.requires in
-    (can_node c.args.builder.now c.args.nodes.now c.lines.nodes c.in-Whole.node c.args.before c.args.piece.now c.lines.front c.in-Some.line.len c.in-Some.line.leaf h (some d) (c.lines.invariant.takes h.body h.current 1 h.is) (first d) (read d)).few
+    (can_node c.args.builder.now c.args.nodes.now c.lines.nodes c.in-Whole.node c.args.before c.args.piece.now
+    c.lines.front c.in-Some.line.len c.in-Some.line.leaf h (some d) (c.lines.invariant.takes h.body h.current 1 h.is)
+    (first d) (read d)).few
 
 pub push-requires-clause-formed : goal.push-requires-clause-formed
 push-requires-clause-formed c =
     let d = (goal.at.push-requires-clause-formed c).In-Whole in
     let h = c.requires in
-    (can_node c.args.builder.now c.args.nodes.now c.lines.nodes c.in-Whole.node c.args.before c.args.piece.now c.lines.front c.in-Some.line.len c.in-Some.line.leaf h (some d) (c.lines.invariant.takes h.body h.current 1 h.is) (first d) (read d)).formed
+    (can_node c.args.builder.now c.args.nodes.now c.lines.nodes c.in-Whole.node c.args.before c.args.piece.now
+    c.lines.front c.in-Some.line.len c.in-Some.line.leaf h (some d) (c.lines.invariant.takes h.body h.current 1 h.is)
+    (first d) (read d)).formed
 
 pub lines-smaller : goal.lines-smaller
 lines-smaller c = omega (arith, few (goal.at.lines-smaller c).In-Whole)
@@ -62,9 +66,14 @@ lines-preserved c =
     record {
       few = omega (arith, few w);
       known = subst (λ ns. All (IsNodeKnown d.counts.n_var d.definitions) ns) (sym c.in-Ok-push.ensures.ok)
-          (known_next d c.args.nodes.now c.lines.nodes c.in-Whole.node c.args.before c.args.piece.now c.lines.front c.in-Some.line.len leaf h (some w) (c.lines.invariant.takes h.body h.current 1 h.is) (first w) (read w));
+          (known_next d c.args.nodes.now c.lines.nodes c.in-Whole.node c.args.before c.args.piece.now c.lines.front
+          c.in-Some.line.len leaf h (some w) (c.lines.invariant.takes h.body h.current 1 h.is) (first w) (read w));
       within = omega (arith, c.lines.invariant.within, (first w).first.within, length-drop c.lines.front.len c.args.piece.now);
       takes = λ b cur number is.
-          subst (λ ns. TakesLines b c.args.piece.now number (record { len = c.lines.front.len + c.in-Some.line.len; lines = c.lines.front.lines + 1 }) (with_nodes b cur ns number (c.lines.front.lines + 1))) (sym c.in-Ok-push.ensures.ok)
-          (node_taken d c.args.nodes.now c.lines.nodes c.in-Whole.node c.args.before b cur number c.args.piece.now c.lines.front c.in-Some.line.len leaf is (some w) (c.lines.invariant.takes b cur number is) (first w) (read w));
+          subst (λ ns. TakesLines b c.args.piece.now number
+          (record { len = c.lines.front.len + c.in-Some.line.len; lines = c.lines.front.lines + 1 })
+          (with_nodes b cur ns number (c.lines.front.lines + 1))) (sym c.in-Ok-push.ensures.ok)
+          (node_taken d c.args.nodes.now c.lines.nodes c.in-Whole.node c.args.before b cur number c.args.piece.now
+          c.lines.front c.in-Some.line.len leaf is (some w) (c.lines.invariant.takes b cur number is) (first w)
+          (read w));
     }

@@ -1,5 +1,5 @@
 use Rattle.std.proofs.Common.{◌≡◌, ◌∙◌, ◌++◌, ◌∷◌, [], ap, arith, subst, sym}
-use Rattle.texts.specs.Words.{row_of, without_comment}
+use Rattle.text_base.specs.Words.{row_of, without_comment}
 use Rattle.nl_model.specs.Nodes.{AreNodesOf, awaited, tree_of}
 use Rattle.nl_segments.proofs.body_pieces.zero_body.Goals as goal
 

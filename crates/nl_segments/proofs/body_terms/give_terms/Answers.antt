@@ -38,6 +38,7 @@ lines-preserved c =
       few = omega (arith, c.lines-test.true);
       within = omega (arith, c.lines.invariant.within, first.first.within, length-drop c.lines.front.len c.args.piece.now);
       takes = λ b cur number is.
-          term_taken b cur c.args.head c.args.most number c.lines.builder c.give_pair.new.builder c.lines.uses.items c.count_use.new.uses.items c.args.piece.now c.lines.front c.in-Some.line is.awaits c.lines-test.true
+          term_taken b cur c.args.head c.args.most number c.lines.builder c.give_pair.new.builder c.lines.uses.items
+          c.count_use.new.uses.items c.args.piece.now c.lines.front c.in-Some.line is.awaits c.lines-test.true
           (c.lines.invariant.takes b cur number is) first below c.in-Ok.ensures.ok c.count_use.ensures;
     }

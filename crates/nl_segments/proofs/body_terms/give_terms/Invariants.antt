@@ -10,7 +10,8 @@ invariant-lines l = record {
   limit : l.limit ≡ l.builder.counts.n_var;
   few : l.front.lines ≤ l.most;
   within : l.front.len ≤ length l.piece;
-  takes : (b : Body) (cur : Current) (number : ℕ) → IsBodyOf l.fn.builder l.fn.uses.items l.head l.most b cur → TakesLines b l.piece number l.front (with_counted (with_parts b l.builder l.uses.items) cur number l.front.lines);
+  takes : (b : Body) (cur : Current) (number : ℕ) → IsBodyOf l.fn.builder l.fn.uses.items l.head l.most b cur
+      → TakesLines b l.piece number l.front (with_counted (with_parts b l.builder l.uses.items) cur number l.front.lines);
 }
 
 abbrev pub decreases-lines : goal.decreases-lines

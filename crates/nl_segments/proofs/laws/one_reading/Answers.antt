@@ -1,5 +1,5 @@
-use Rattle.texts.specs.Reading.{lines_of, last_of}
-use Rattle.texts.proofs.JudgedLemmas.{one_outcome}
+use Rattle.text_base.specs.Reading.{lines_of, last_of}
+use Rattle.text_base.proofs.JudgedLemmas.{one_outcome}
 use Rattle.nl_segments.specs.Grammar.{nl_rules}
 use Rattle.nl_segments.proofs.laws.one_reading.Goals as goal
 

@@ -17,7 +17,8 @@ returns c =
     let has = c.in_ok-uses.ensures.uses in
     let size : c.len-count.result ≡ file.counts.n_var = omega (arith, ap length c.deref.ensures.value, c.deref.ensures.len, has.count, c.len-count.ensures) in
     let front : take (c.len-count.result - 1) c.deref.result.now ≡ take (file.counts.n_var - 1) uses = ap₂ (λ k xs. take (k - 1) xs) size c.deref.ensures.value in
-    columns_written file.counts.n_var file.terms uses (take (c.len-count.result - 1) c.deref.result.now) c.args.out.now.items c.put_lettered.new.out.items c.put_end.new.out.items c.put_sums.new.out.items
+    columns_written file.counts.n_var file.terms uses (take (c.len-count.result - 1) c.deref.result.now)
+    c.args.out.now.items c.put_lettered.new.out.items c.put_end.new.out.items c.put_sums.new.out.items
     has (omega (arith, size)) front (search rules) c.in_ok-put_end.ensures c.in_ok-put_sums.ensures
 
 pub returns-then-count-eq0 : goal.returns-then-count-eq0

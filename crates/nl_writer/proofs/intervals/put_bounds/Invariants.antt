@@ -1,5 +1,5 @@
 use Rattle.std.proofs.Common.{◌≡◌, ◌++◌, drop, map}
-use Rattle.texts.specs.WordLines.{lines_text}
+use Rattle.text_base.specs.WordLines.{lines_text}
 use Rattle.nl_writer.specs.Written.{interval_line}
 use Rattle.nl_writer.proofs.intervals.put_bounds.Given as goal
 

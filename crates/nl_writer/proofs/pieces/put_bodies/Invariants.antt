@@ -1,5 +1,5 @@
 use Rattle.std.proofs.Common.{◌≡◌, ◌++◌, drop}
-use Rattle.texts.specs.WordLines.{lines_text}
+use Rattle.text_base.specs.WordLines.{lines_text}
 use Rattle.nl_writer.specs.Written.{by_number, body_piece}
 use Rattle.nl_writer.proofs.pieces.put_bodies.Given as goal
 

@@ -1,6 +1,6 @@
 use Rattle.std.proofs.Common.{◌≡◌, ◌++◌, take}
 use Rattle.std.specs.List.{flat_map}
-use Rattle.texts.specs.WordLines.{lines_text}
+use Rattle.text_base.specs.WordLines.{lines_text}
 use Rattle.nl_writer.specs.Written.{suffix_piece}
 use Rattle.nl_writer.proofs.pieces.put_suffixes.Given as goal
 

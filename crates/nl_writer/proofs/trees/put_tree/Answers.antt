@@ -1,7 +1,7 @@
 use Rattle.std.proofs.Common.{◌++◌, ◌∙◌, ap, arith}
 use Rattle.std.specs.List.{flat_map}
 use Rattle.std.proofs.lemmas.List.{take_all}
-use Rattle.texts.specs.WordLines.{lines_text}
+use Rattle.text_base.specs.WordLines.{lines_text}
 use Rattle.nl_writer.specs.Trees.{node_lines}
 use Rattle.nl_writer.proofs.Writing.{node_lines-prefix}
 use Rattle.nl_writer.proofs.trees.put_tree.Goals as goal

@@ -1,5 +1,5 @@
 use Rattle.std.proofs.Common.{◌≡◌, ◌++◌, map, take}
-use Rattle.texts.specs.Cut.{ended_lines}
+use Rattle.text_base.specs.Cut.{ended_lines}
 use Rattle.exact_numbers.specs.Values.{text_of}
 use Rattle.sol_files.proofs.write.put_decs.Given as goal
 

@@ -1,5 +1,5 @@
 use Rattle.std.proofs.Common.{◌≡◌, ◌++◌, take}
-use Rattle.texts.specs.Cut.{ended_lines}
+use Rattle.text_base.specs.Cut.{ended_lines}
 use Rattle.sol_files.proofs.write.put_lines.Given as goal
 
 abbrev pub invariant-loop-i : goal.invariant-loop-i

@@ -1,6 +1,6 @@
 use Rattle.std.proofs.Common.{◌≡◌, ◌++◌, map, take}
 use Rattle.std.specs.Fmt.{signed_decimal}
-use Rattle.texts.specs.Cut.{ended_lines}
+use Rattle.text_base.specs.Cut.{ended_lines}
 use Rattle.sol_files.proofs.write.put_options.Given as goal
 
 abbrev pub invariant-loop-option : goal.invariant-loop-option

@@ -1,6 +1,6 @@
 use Rattle.std.proofs.Common.{◌≡◌, ◌++◌, map, take}
 use Rattle.sol_files.specs.Written.{value_line}
-use Rattle.texts.specs.Cut.{ended_lines}
+use Rattle.text_base.specs.Cut.{ended_lines}
 use Rattle.sol_files.proofs.write.put_pairs.Given as goal
 
 abbrev pub invariant-loop-pair : goal.invariant-loop-pair

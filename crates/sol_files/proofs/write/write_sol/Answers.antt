@@ -2,7 +2,7 @@ use Rattle.std.proofs.Common.{◌∙◌, ap₂, [], ◌∷◌, ◌++◌, length,
 use Rattle.std.specs.Prelude.{codes}
 use Rattle.std.specs.Fmt.{decimal, signed_decimal}
 use Rattle.sol_files.specs.Written.{sol_text, sol_lines}
-use Rattle.texts.specs.Cut.{ended_lines}
+use Rattle.text_base.specs.Cut.{ended_lines}
 use Rattle.sol_files.proofs.WriteLemmas.{seven_parts}
 use Rattle.sol_files.proofs.write.write_sol.Goals as goal
 

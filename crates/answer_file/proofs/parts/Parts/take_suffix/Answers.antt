@@ -8,7 +8,8 @@ use Rattle.answer_file.proofs.parts.Parts.take_suffix.Goals as goal
 
 pub returns : goal.returns
 returns c =
-    suffix-taken c.args.scope.now (the_view c.self.inside) c.args.self.now _ c.word_at-name.result.now c.in-Some.kind c.object_target-target.result c.dec_of.result c.take_object.result c.take_object.new.table
+    suffix-taken c.args.scope.now (the_view c.self.inside) c.args.self.now _ c.word_at-name.result.now c.in-Some.kind
+    c.object_target-target.result c.dec_of.result c.take_object.result c.take_object.new.table
     c.self.view_is
     (length-map c.args.words.now (λ w. w.now) ∙ c.if-words-ne5.false)
     c.word_at-name.ensures

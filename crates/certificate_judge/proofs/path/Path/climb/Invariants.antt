@@ -1,5 +1,5 @@
 use Rattle.std.proofs.Common.{◌≡◌, ℕ, List, length}
-use Rattle.duality.specs.Parts.{Part}
+use Rattle.certificates.specs.Parts.{Part}
 use Rattle.certificate_judge.specs.InsidePaths.{IsAt, IsPath, Turn, next_turns}
 use Rattle.certificate_judge.proofs.path.Path.climb.Given as goal
 

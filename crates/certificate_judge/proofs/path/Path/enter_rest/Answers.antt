@@ -1,5 +1,5 @@
 use Rattle.std.proofs.Common.{refl}
-use Rattle.duality.specs.Parts.{lemma}
+use Rattle.certificates.specs.Parts.{lemma}
 use Rattle.certificate_judge.specs.InsidePaths.{sides_of, to_second}
 use Rattle.certificate_judge.specs.declared.path.Step.TheVariants.{Over}
 use Rattle.certificate_judge.proofs.PathLemmas.{one_row, path_row, stepped}
@@ -12,7 +12,26 @@ returns-clause-path c n w p =
 
 pub returns-clause-at : goal.returns-clause-at
 returns-clause-at c base turns form t is h =
-    stepped base turns (to_second (lemma form t)) Over c.args.self.now (record { lo = c.args.self.now.lo; hi = c.args.self.now.hi; added = c.push.new.self; lemmas = c.args.self.now.lemmas; steps = c.push-2.new.self })
-    c.in_ok-push-2.ensures.items
-    (c.lemma_row.result, c.lemma_row.ensures.row form t is, one_row (sides_of c.args.self.now) (sides_of (record { lo = c.args.self.now.lo; hi = c.args.self.now.hi; added = c.push.new.self; lemmas = c.args.self.now.lemmas; steps = c.push-2.new.self })) c.lemma_row.result refl refl c.in_ok-push.ensures.items refl)
+    stepped base turns (to_second (lemma form t)) Over c.args.self.now
+    (record {
+      lo = c.args.self.now.lo;
+      hi = c.args.self.now.hi;
+      added = c.push.new.self;
+      lemmas =
+          c.args.self.now.lemmas;
+      steps = c.push-2.new.self;
+    })
+    c.in_ok-push-2.ensures.items (
+      c.lemma_row.result,
+      c.lemma_row.ensures.row form t is,
+      one_row (sides_of c.args.self.now) (sides_of (record {
+        lo = c.args.self.now.lo;
+        hi = c.args.self.now.hi;
+        added =
+            c.push.new.self;
+        lemmas = c.args.self.now.lemmas;
+        steps = c.push-2.new.self;
+      })) c.lemma_row.result refl refl
+          c.in_ok-push.ensures.items refl,
+    )
     h

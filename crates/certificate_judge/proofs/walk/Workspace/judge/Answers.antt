@@ -1,5 +1,5 @@
 use Rattle.std.proofs.Common.{◌≡◌, ◌∙◌, ap, sym, Some}
-use Rattle.duality.specs.Parts.{whole_part}
+use Rattle.certificates.specs.Parts.{whole_part}
 use Rattle.exact_numbers.specs.Values.{frac_value}
 use Rattle.exact_checks.specs.Programs.{program_value}
 use Rattle.certificate_judge.specs.InsidePaths.{last_of, part_under}

@@ -12,6 +12,8 @@ invariant_of-result c =
     record {
       width = by_column.count ∙ count;
       costed = costs.count ∙ count;
-      transposed = columns_are (length p.lower.items) p.rows.items c.in_ok-columns.columns.items c.in_ok-costs.costs.items p.objective p.sound (subst (λ n. AreColumnsOf n p.rows.items c.in_ok-columns.columns.items) count by_column)
+      transposed = columns_are (length p.lower.items) p.rows.items c.in_ok-columns.columns.items
+          c.in_ok-costs.costs.items p.objective p.sound (subst
+          (λ n. AreColumnsOf n p.rows.items c.in_ok-columns.columns.items) count by_column)
           (subst (λ n. AreCostsOf n p.objective.terms c.in_ok-costs.costs.items) count costs);
     }

@@ -11,6 +11,10 @@ invariant_of-result c =
     let lows = c.in_ok-lower.ensures ∙ ap (map (λ b. b.lo)) c.bounds-bounds.ensures in
     let highs = c.in_ok-upper.ensures ∙ ap (map (λ b. b.hi)) c.bounds-bounds.ensures in
     record {
-      uppers = upper_count l c.objective-form.ensures.folded c.in_ok-rows.rows.items c.in_ok-objective.objective c.in_ok-lower.lower.items c.in_ok-upper.upper.items c.in_ok-rows.ensures.rows c.in_ok-rows.ensures.within copied c.in_ok-objective.ensures.ascending lows highs;
-      sound = sound l c.objective-form.ensures.folded c.in_ok-rows.rows.items c.in_ok-objective.objective c.in_ok-lower.lower.items c.in_ok-upper.upper.items c.in_ok-rows.ensures.rows c.in_ok-rows.ensures.within copied c.in_ok-objective.ensures.ascending lows highs;
+      uppers = upper_count l c.objective-form.ensures.folded c.in_ok-rows.rows.items c.in_ok-objective.objective
+          c.in_ok-lower.lower.items c.in_ok-upper.upper.items c.in_ok-rows.ensures.rows c.in_ok-rows.ensures.within copied
+          c.in_ok-objective.ensures.ascending lows highs;
+      sound = sound l c.objective-form.ensures.folded c.in_ok-rows.rows.items c.in_ok-objective.objective
+          c.in_ok-lower.lower.items c.in_ok-upper.upper.items c.in_ok-rows.ensures.rows c.in_ok-rows.ensures.within copied
+          c.in_ok-objective.ensures.ascending lows highs;
     }

@@ -1,6 +1,6 @@
 use Rattle.std.proofs.Common.{rules, ◌≡◌, ◌∙◌, sym, ap, neg_ℤ, to_z, of_z, w64}
-use Rattle.fractions.specs.Rational.{over}
-use Rattle.fractions.proofs.Arithmetic.{over-neg}
+use Rattle.exact_numbers.specs.Rational.{over}
+use Rattle.exact_numbers.proofs.RationalLaws.{over-neg}
 use Rattle.exact_checks.proofs.short_fraction.ShortFraction.negated.Goals as goal
 
 pub returns : goal.returns

@@ -1,8 +1,8 @@
 use Rattle.std.proofs.Common.{rules, ◌≡◌, ◌∙◌, ap₂, to_z, of_z, w64}
 use Rattle.std.specs.Int.{w128}
 use lib.IntN.{nat_abs}
-use Rattle.fractions.specs.Rational.{over}
-use Rattle.fractions.proofs.Arithmetic.{over_parts}
+use Rattle.exact_numbers.specs.Rational.{over}
+use Rattle.exact_numbers.proofs.RationalLaws.{over_parts}
 use Rattle.exact_numbers.specs.Values.{frac_value}
 use Rattle.exact_checks.proofs.short_fraction.ShortFraction.of.Goals as goal
 

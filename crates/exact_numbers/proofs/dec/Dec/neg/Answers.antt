@@ -1,6 +1,6 @@
 use Rattle.std.proofs.Common.{rules, arith, ap₂, ◌∙◌, ◌≡◌, neg_ℤ}
 use Rattle.std.proofs.lemmas.Int.{ints}
-use Rattle.fractions.specs.Rational.{decimal_value}
+use Rattle.exact_numbers.specs.Rational.{decimal_value}
 use Rattle.exact_numbers.proofs.Decimals.{abs_is}
 use Rattle.exact_numbers.proofs.Bridge.{decimal-neg}
 use Rattle.exact_numbers.proofs.dec.Dec.neg.Goals as goal

@@ -16,8 +16,12 @@ returns-then-n-lt0 c =
     let y = scaled c.args.other.m c.args.other.e in
     let size : c.args.self.m <ℤ pos 0 = search rules in
     let other_size : c.args.other.m <ℤ pos 0 = search rules in
-    let a : c.unsigned_abs-then-n-lt0.result * 10 ^ up c.args.self.e ≡ unsigned_abs x.top = ap (λ n. n * 10 ^ up c.args.self.e) (search rules) ∙ sym (unsigned_abs-mul c.args.self.m (pos (10 ^ up c.args.self.e))) in
-    let b : c.unsigned_abs.result * 10 ^ up c.args.other.e ≡ unsigned_abs y.top = ap (λ n. n * 10 ^ up c.args.other.e) (search rules) ∙ sym (unsigned_abs-mul c.args.other.m (pos (10 ^ up c.args.other.e))) in
+    let a : c.unsigned_abs-then-n-lt0.result * 10 ^ up c.args.self.e ≡ unsigned_abs x.top =
+    ap (λ n. n * 10 ^ up c.args.self.e) (search rules) ∙ sym
+    (unsigned_abs-mul c.args.self.m (pos (10 ^ up c.args.self.e))) in
+    let b : c.unsigned_abs.result * 10 ^ up c.args.other.e ≡ unsigned_abs y.top =
+    ap (λ n. n * 10 ^ up c.args.other.e) (search rules) ∙ sym
+    (unsigned_abs-mul c.args.other.m (pos (10 ^ up c.args.other.e))) in
     let e : to_z w16 (of_z w16 c.e-then-n-lt0.result) ≡ c.args.self.e = to_z-of_z {w = w16} (record { sfits = c.e-then-n-lt0.type_inv }) ∙ c.e-then-n-lt0.ensures in
     let f : to_z w16 (of_z w16 c.e.result) ≡ c.args.other.e = to_z-of_z {w = w16} (record { sfits = c.e.type_inv }) ∙ c.e.ensures in
     (simp (e, f) at c.order_of_scaled.ensures)

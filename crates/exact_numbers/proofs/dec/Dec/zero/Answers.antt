@@ -1,5 +1,5 @@
 use Rattle.std.proofs.Common.{pos, ap₂, ◌∙◌}
-use Rattle.fractions.specs.Rational.{decimal_value}
+use Rattle.exact_numbers.specs.Rational.{decimal_value}
 use Rattle.exact_numbers.proofs.Bridge.{zero_decimal}
 use Rattle.exact_numbers.proofs.dec.Dec.zero.Goals as goal
 

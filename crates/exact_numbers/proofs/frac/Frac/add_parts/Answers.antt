@@ -5,8 +5,8 @@ use Rattle.exact_numbers.specs.Decimal.{signed}
 use Rattle.exact_numbers.proofs.Fractions.{Added, added, frac_fits, in_range_fits, sized_fits, signed_self}
 use Rattle.exact_numbers.specs.Values.{frac_value}
 use Rattle.exact_numbers.proofs.Bridge.{not_sum, summed, sum_is, pair_is, in_range}
-use Rattle.fractions.specs.Rational.{over, ◌+ℚ◌}
-use Rattle.fractions.proofs.Values.{same_value}
+use Rattle.exact_numbers.specs.Rational.{over, ◌+ℚ◌}
+use Rattle.exact_numbers.proofs.Values.{same_value}
 use Rattle.exact_numbers.proofs.frac.Frac.add_parts.Goals as goal
 use Rattle.exact_numbers.proofs.frac.Frac.add_parts.Goals.{After-gcd-common}
 
@@ -63,9 +63,14 @@ returns c =
     let sum_fits : SFits w128 c.in-Some-bounded_sum.sum = sized_fits _ (subst (λ z. unsigned_abs z < 2 ^ 127) (sym sum.1) sum.0) in
     let size : c.unsigned_abs.result ≡ unsigned_abs c.in-Some-bounded_sum.sum = search rules in
     let z = over (signed (int_lt c.in-Some-bounded_sum.sum (pos 0)) c.unsigned_abs.result) c.in-Some.den in
-    let is : pair (signed (int_lt c.in-Some-bounded_sum.sum (pos 0)) c.unsigned_abs.result) c.in-Some.den ≡ pair (c.args.self.num *ℤ pos (c.args.other.den / c.gcd-common.result) +ℤ c.args.other.num *ℤ pos (c.args.self.den / c.gcd-common.result)) (c.args.self.den * (c.args.other.den / c.gcd-common.result)) =
+    let is : pair (signed (int_lt c.in-Some-bounded_sum.sum (pos 0)) c.unsigned_abs.result) c.in-Some.den
+    ≡ pair (c.args.self.num *ℤ pos (c.args.other.den / c.gcd-common.result) +ℤ c.args.other.num
+    *ℤ pos (c.args.self.den / c.gcd-common.result)) (c.args.self.den * (c.args.other.den / c.gcd-common.result)) =
     ap₂ pair (ap (λ n. signed (int_lt c.in-Some-bounded_sum.sum (pos 0)) n) size ∙ signed_self c.in-Some-bounded_sum.sum ∙ sum.1) den.1 in
-    let same : SameValue (pair (signed (int_lt c.in-Some-bounded_sum.sum (pos 0)) c.unsigned_abs.result) c.in-Some.den) (sum_of (pair c.args.self.num c.args.self.den) (pair c.args.other.num c.args.other.den)) = subst (λ x. SameValue x (sum_of (pair c.args.self.num c.args.self.den) (pair c.args.other.num c.args.other.den))) (sym is) w.same in
+    let same : SameValue (pair (signed (int_lt c.in-Some-bounded_sum.sum (pos 0)) c.unsigned_abs.result) c.in-Some.den)
+    (sum_of (pair c.args.self.num c.args.self.den) (pair c.args.other.num c.args.other.den)) =
+    subst (λ x. SameValue x (sum_of (pair c.args.self.num c.args.self.den) (pair c.args.other.num c.args.other.den)))
+    (sym is) w.same in
     let some : 0 < c.in-Some.den = rw den.1 w.above in
     let equal : z ≡ frac_value c.args.self +ℚ frac_value c.args.other = same_value (pair_is _ _ some) (sum_is (frac_value c.args.self) (frac_value c.args.other)) same.equal in
     summed c.reduced.result (frac_value c.args.self) (frac_value c.args.other) z

@@ -6,7 +6,10 @@ use Rattle.exact_numbers.proofs.ShortSums.{ShortSum, short_sum, sum_read, sum_fo
 use Rattle.exact_numbers.proofs.frac.Frac.add_short.Goals as goal
 use Rattle.exact_numbers.proofs.frac.Frac.add_short.Goals.{After-small_product-den}
 
-found : (c : After-small_product-den) → ShortSum c.args.self.num c.args.self.den c.args.other.num c.args.other.den (signed (int_lt (to_z w128 (of_z w128 (to_z w128 (of_z w128 c.signed_product.result) +ℤ to_z w128 (of_z w128 c.signed_product-2.result)))) (pos 0)) c.divided-num.result) c.small_product-den.result
+found : (c : After-small_product-den) → ShortSum c.args.self.num c.args.self.den c.args.other.num c.args.other.den
+    (signed (int_lt (to_z w128 (of_z w128 (to_z w128 (of_z w128 c.signed_product.result)
+    +ℤ to_z w128 (of_z w128 c.signed_product-2.result)))) (pos 0)) c.divided-num.result)
+    c.small_product-den.result
 found c =
     let a = c.in_ok-a.ensures in
     let b = c.in_ok-b.ensures in
@@ -18,9 +21,16 @@ found c =
     let second = c.signed_product-2.ensures in
     let left = first.value ∙ ap (λ s. to_z w64 (of_z w64 c.in_ok-a.a.num) *ℤ pos s) c.divided-scale.ensures in
     let right = second.value ∙ ap (λ s. to_z w64 (of_z w64 c.in_ok-b.b.num) *ℤ pos s) c.divided-other_scale.ensures in
-    let sum : to_z w128 (of_z w128 (to_z w128 (of_z w128 c.signed_product.result) +ℤ to_z w128 (of_z w128 c.signed_product-2.result))) ≡ c.signed_product.result +ℤ c.signed_product-2.result = search rules in
+    let sum : to_z w128 (of_z w128 (to_z w128 (of_z w128 c.signed_product.result)
+    +ℤ to_z w128 (of_z w128 c.signed_product-2.result))) ≡ c.signed_product.result +ℤ c.signed_product-2.result =
+    search rules in
     let size = c.unsigned_abs-size.ensures.value in
-    sum_read n a.1 k b.1 (short_sum _ _ _ _ _ _ _ _ _ x y a.2 b.2 (subst (λ z. unsigned_abs z < 2 ^ 126) left first.bounded) (subst (λ z. unsigned_abs z < 2 ^ 126) right second.bounded) c.small_gcd-common.ensures.greatest (sum ∙ ap₂ ◌+ℤ◌ left right) (subst (λ z. IsGcd z c.small_gcd-common.result c.small_gcd-part.result) size c.small_gcd-part.ensures.greatest) (c.divided-num.ensures ∙ ap (λ z. z / c.small_gcd-part.result) size) (c.small_product-den.ensures ∙ ap₂ ◌*◌ c.divided-other_scale.ensures c.divided.ensures))
+    sum_read n a.1 k b.1 (short_sum _ _ _ _ _ _ _ _ _ x y a.2 b.2
+    (subst (λ z. unsigned_abs z < 2 ^ 126) left first.bounded)
+    (subst (λ z. unsigned_abs z < 2 ^ 126) right second.bounded) c.small_gcd-common.ensures.greatest
+    (sum ∙ ap₂ ◌+ℤ◌ left right) (subst (λ z. IsGcd z c.small_gcd-common.result c.small_gcd-part.result) size
+    c.small_gcd-part.ensures.greatest) (c.divided-num.ensures ∙ ap (λ z. z / c.small_gcd-part.result) size)
+    (c.small_product-den.ensures ∙ ap₂ ◌*◌ c.divided-other_scale.ensures c.divided.ensures))
 
 pub paired-requires : goal.paired-requires
 paired-requires c = (found (goal.at.paired-requires c).After-small_product-den).frac

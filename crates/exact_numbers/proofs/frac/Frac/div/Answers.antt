@@ -1,5 +1,5 @@
 use Rattle.std.proofs.Common.{rules, ◌≡◌, ◌≢◌, pos, inl, ap}
-use Rattle.fractions.specs.Rational.{zero_ℚ, ◌*ℚ◌}
+use Rattle.exact_numbers.specs.Rational.{zero_ℚ, ◌*ℚ◌}
 use Rattle.exact_numbers.specs.Values.{frac_value}
 use Rattle.exact_numbers.proofs.Bridge.{zero_is, zero_num, divided}
 use Rattle.exact_numbers.proofs.frac.Frac.div.Goals as goal

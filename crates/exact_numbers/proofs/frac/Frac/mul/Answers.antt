@@ -1,8 +1,8 @@
 use Rattle.std.proofs.Common.{sym, ap, ◌∙◌}
 use Rattle.exact_numbers.specs.Values.{frac_value}
 use Rattle.exact_numbers.proofs.Bridge.{is_fitting}
-use Rattle.fractions.specs.Rational.{◌*ℚ◌}
-use Rattle.fractions.proofs.Arithmetic.{*ℚ_one, one-*ℚ}
+use Rattle.exact_numbers.specs.Rational.{◌*ℚ◌}
+use Rattle.exact_numbers.proofs.RationalLaws.{*ℚ_one, one-*ℚ}
 use Rattle.exact_numbers.proofs.frac.Frac.mul.Goals as goal
 
 pub returns-then-is_one : goal.returns-then-is_one

@@ -6,7 +6,9 @@ use Rattle.exact_numbers.proofs.ShortSums.{ShortProduct, short_product, product_
 use Rattle.exact_numbers.proofs.frac.Frac.mul_short.Goals as goal
 use Rattle.exact_numbers.proofs.frac.Frac.mul_short.Goals.{After-small_product-den}
 
-found : (c : After-small_product-den) → ShortProduct c.args.self.num c.args.self.den c.args.other.num c.args.other.den (signed (not (beq (int_lt (to_z w64 (of_z w64 c.in_ok-a.a.num)) (pos 0)) (int_lt (to_z w64 (of_z w64 c.in_ok-b.b.num)) (pos 0)))) c.small_product-num.result) c.small_product-den.result
+found : (c : After-small_product-den) → ShortProduct c.args.self.num c.args.self.den c.args.other.num c.args.other.den
+    (signed (not (beq (int_lt (to_z w64 (of_z w64 c.in_ok-a.a.num)) (pos 0))
+    (int_lt (to_z w64 (of_z w64 c.in_ok-b.b.num)) (pos 0)))) c.small_product-num.result) c.small_product-den.result
 found c =
     let a = c.in_ok-a.ensures in
     let b = c.in_ok-b.ensures in
@@ -16,7 +18,10 @@ found c =
     let y : IsFrac (to_z w64 (of_z w64 c.in_ok-b.b.num)) c.in_ok-b.b.den = subst₂ IsFrac (sym k) (sym b.1) c.args.other.spelled in
     let size = c.unsigned_abs-size.ensures in
     let other = c.unsigned_abs-other_size.ensures in
-    product_read m a.1 k b.1 (short_product _ _ _ _ _ _ _ _ _ _ x y a.2 b.2 size.bound other.bound size.value other.value c.small_gcd-first.ensures.greatest c.small_gcd-second.ensures.greatest (c.small_product-num.ensures ∙ ap₂ ◌*◌ c.divided.ensures c.divided-2.ensures) (c.small_product-den.ensures ∙ ap₂ ◌*◌ c.divided-3.ensures c.divided-4.ensures))
+    product_read m a.1 k b.1 (short_product _ _ _ _ _ _ _ _ _ _ x y a.2 b.2 size.bound other.bound size.value
+    other.value c.small_gcd-first.ensures.greatest c.small_gcd-second.ensures.greatest
+    (c.small_product-num.ensures ∙ ap₂ ◌*◌ c.divided.ensures c.divided-2.ensures)
+    (c.small_product-den.ensures ∙ ap₂ ◌*◌ c.divided-3.ensures c.divided-4.ensures))
 
 pub paired-requires : goal.paired-requires
 paired-requires c = (found (goal.at.paired-requires c).After-small_product-den).frac

@@ -7,7 +7,8 @@ use Rattle.exact_numbers.proofs.Bridge.{not_fits, fitting, product_is}
 use Rattle.exact_numbers.proofs.frac.Frac.mul_whole.Goals as goal
 use Rattle.exact_numbers.proofs.frac.Frac.mul_whole.Goals.{After-unsigned_abs-2}
 
-product : (c : After-unsigned_abs-2) → Multiplied c.args.self.num c.args.other.num c.unsigned_abs.result c.unsigned_abs-2.result c.args.self.den c.args.other.den (c.unsigned_abs.result * c.unsigned_abs-2.result) 1
+product : (c : After-unsigned_abs-2) → Multiplied c.args.self.num c.args.other.num c.unsigned_abs.result
+    c.unsigned_abs-2.result c.args.self.den c.args.other.den (c.unsigned_abs.result * c.unsigned_abs-2.result) 1
 product c =
     let a : c.unsigned_abs.result ≡ unsigned_abs c.args.self.num = search rules in
     let b : c.unsigned_abs-2.result ≡ unsigned_abs c.args.other.num = search rules in

@@ -16,13 +16,17 @@ read : (c : After-e-e) → (to_z w128 (of_z w128 c.m-m.result) ≡ c.args.d.m) �
 read c = (to_z-of_z {w = w128} (record { sfits = c.m-m.type_inv }) ∙ c.m-m.ensures, to_z-of_z {w = w16} (record { sfits = c.e-e.type_inv }) ∙ c.e-e.ensures)
 
 -- the parts of a number with an exponent below 0
-parted : (c : After-cancel-fives) → OfDec c.args.d.m c.args.d.e c.cancel-fives.result.rest (2 ^ c.cancel-twos.result.left * 5 ^ c.cancel-fives.result.left) × (c.cancel-fives.result.rest ≤ unsigned_abs c.args.d.m)
+parted : (c : After-cancel-fives) → OfDec c.args.d.m c.args.d.e c.cancel-fives.result.rest
+    (2 ^ c.cancel-twos.result.left * 5 ^ c.cancel-fives.result.left)
+    × (c.cancel-fives.result.rest ≤ unsigned_abs c.args.d.m)
 parted c =
     let m : to_z w128 (of_z w128 c.m-m.result) ≡ c.args.d.m = to_z-of_z {w = w128} (record { sfits = c.m-m.type_inv }) ∙ c.m-m.ensures in
     let e : to_z w16 (of_z w16 c.e-e.result) ≡ c.args.d.e = to_z-of_z {w = w16} (record { sfits = c.e-e.type_inv }) ∙ c.e-e.ensures in
     let twos = c.cancel-twos.ensures in
     let fives = c.cancel-fives.ensures in
-    part_of_dec c.args.d.m c.args.d.e _ _ _ _ _ _ (omega (arith, ints, c.e-e.ensures)) (c.unsigned_abs-size.ensures.value ∙ ap unsigned_abs m) (search rules) twos.within fives.within twos.whole fives.whole twos.shortest fives.shortest
+    part_of_dec c.args.d.m c.args.d.e _ _ _ _ _ _ (omega (arith, ints, c.e-e.ensures))
+    (c.unsigned_abs-size.ensures.value ∙ ap unsigned_abs m) (search rules) twos.within fives.within twos.whole
+    fives.whole twos.shortest fives.shortest
 
 pub invariant_of-result : goal.invariant_of-result
 invariant_of-result c =
@@ -34,7 +38,9 @@ returns-then-e-eq0 c =
     let m = (read (goal.at.returns-then-e-eq0 c).After-e-e).0 in
     let e = (read (goal.at.returns-then-e-eq0 c).After-e-e).1 in
     let none : c.args.d.e ≡ pos 0 = omega (arith, ints, e, c.if-e-eq0.true) in
-    fitting_parts _ _ _ _ (subst (λ z. IsFrac z 1) (sym m) (whole_frac c.args.d.m c.args.d.spelled.mantissa)) _ _ (decimal_is c.args.d.m c.args.d.e) (subst (λ z. SameValue (pair z 1) (scaled c.args.d.m c.args.d.e)) (sym m) (whole_same c.args.d.m c.args.d.e none))
+    fitting_parts _ _ _ _ (subst (λ z. IsFrac z 1) (sym m) (whole_frac c.args.d.m c.args.d.spelled.mantissa)) _ _
+    (decimal_is c.args.d.m c.args.d.e) (subst (λ z. SameValue (pair z 1) (scaled c.args.d.m c.args.d.e)) (sym m)
+    (whole_same c.args.d.m c.args.d.e none))
 
 pub returns-in_default : goal.returns-in_default
 returns-in_default c = not_fits _ _ (decimal_is c.args.d.m c.args.d.e) (λ fits.
@@ -78,7 +84,9 @@ paired-requires-2 c =
     let m = (read (goal.at.paired-requires-2 c).After-e-e).0 in
     let w = parted (goal.at.paired-requires-2 c).After-cancel-fives in
     let h = c.in-Some-grown-2.ensures in
-    let den : c.in-Some-grown-2.den ≡ 2 ^ c.cancel-twos.result.left * 5 ^ c.cancel-fives.result.left = h.1 ∙ ap (λ x. x * 5 ^ c.cancel-fives.result.left) (c.in-Some-grown.ensures.1 ∙ one-mul (2 ^ c.cancel-twos.result.left)) in
+    let den : c.in-Some-grown-2.den ≡ 2 ^ c.cancel-twos.result.left * 5 ^ c.cancel-fives.result.left =
+    h.1 ∙ ap (λ x. x * 5 ^ c.cancel-fives.result.left) (c.in-Some-grown.ensures.1
+    ∙ one-mul (2 ^ c.cancel-twos.result.left)) in
     let small : c.cancel-fives.result.rest < 2 ^ 127 = omega (arith, w.1, c.args.d.spelled.mantissa) in
     simp (m, den) (w.0.is_frac small (rw (← den, h.1) h.0))
 
@@ -86,5 +94,7 @@ pub returns : goal.returns
 returns c =
     let m = (read (goal.at.returns c).After-e-e).0 in
     let w = parted (goal.at.returns c).After-cancel-fives in
-    let den : c.in-Some-grown-2.den ≡ 2 ^ c.cancel-twos.result.left * 5 ^ c.cancel-fives.result.left = c.in-Some-grown-2.ensures.1 ∙ ap (λ x. x * 5 ^ c.cancel-fives.result.left) (c.in-Some-grown.ensures.1 ∙ one-mul (2 ^ c.cancel-twos.result.left)) in
+    let den : c.in-Some-grown-2.den ≡ 2 ^ c.cancel-twos.result.left * 5 ^ c.cancel-fives.result.left =
+    c.in-Some-grown-2.ensures.1 ∙ ap (λ x. x * 5 ^ c.cancel-fives.result.left)
+    (c.in-Some-grown.ensures.1 ∙ one-mul (2 ^ c.cancel-twos.result.left)) in
     fitting c.paired-2.result _ _ (decimal_is c.args.d.m c.args.d.e) (simp (c.paired-2.ensures.numerator, c.paired-2.ensures.denominator, m, den) w.0.same)

@@ -14,4 +14,6 @@ pub returns : goal.returns
 returns c =
     let size : c.unsigned_abs.result ≡ unsigned_abs c.args.self.num = search rules in
     let fit : SFits w128 c.args.self.num = frac_fits _ _ c.args.self.spelled in
-    inverse_is c.args.self c.paired.result (λ e. c.requires (zero_is c.args.self e)) (c.paired.ensures.numerator ∙ ap (λ n. signed (int_lt n (pos 0)) c.args.self.den) (to_z-of_z fit)) (c.paired.ensures.denominator ∙ size)
+    inverse_is c.args.self c.paired.result (λ e. c.requires (zero_is c.args.self e))
+    (c.paired.ensures.numerator ∙ ap (λ n. signed (int_lt n (pos 0)) c.args.self.den) (to_z-of_z fit))
+    (c.paired.ensures.denominator ∙ size)

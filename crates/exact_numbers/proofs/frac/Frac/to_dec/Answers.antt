@@ -8,9 +8,9 @@ use Rattle.exact_numbers.proofs.Fractions.{frac_fits}
 use Rattle.exact_numbers.proofs.OfDec.{cofactor_of}
 use Rattle.exact_numbers.proofs.ToDec.{finite, places_of, no_dec_above, same_at}
 use Rattle.exact_numbers.specs.Values.{frac_value, IsDecOf}
-use Rattle.fractions.specs.Rational.{decimal_value}
+use Rattle.exact_numbers.specs.Rational.{decimal_value}
 use Rattle.exact_numbers.proofs.Signs.{frac_whole}
-use Rattle.fractions.proofs.Values.{own_value}
+use Rattle.exact_numbers.proofs.Values.{own_value}
 use Rattle.exact_numbers.proofs.Bridge.{not_dec, same_dec_value, match_dec}
 use Rattle.exact_numbers.proofs.frac.Frac.to_dec.Goals as goal
 
@@ -21,7 +21,9 @@ returns-then-self-eq1 c =
 
 pub returns-then-fives-ne1 : goal.returns-then-fives-ne1
 returns-then-fives-ne1 c = not_dec _ _ (own_value (frac_value c.args.self)) (λ fits.
-    let w = cofactor_of c.args.self.den _ _ _ _ c.args.self.spelled.above c.args.self.spelled.small c.cancel-twos.ensures.within c.cancel-fives.ensures.within c.cancel-twos.ensures.whole c.cancel-fives.ensures.whole c.cancel-twos.ensures.shortest c.cancel-fives.ensures.shortest in
+    let w = cofactor_of c.args.self.den _ _ _ _ c.args.self.spelled.above c.args.self.spelled.small
+    c.cancel-twos.ensures.within c.cancel-fives.ensures.within c.cancel-twos.ensures.whole
+    c.cancel-fives.ensures.whole c.cancel-twos.ensures.shortest c.cancel-fives.ensures.shortest in
     c.if-fives-ne1.true (finite c.args.self.num c.args.self.den c.cancel-fives.result.rest c.args.self.spelled w.0 fits))
 
 pub returns-in_default : goal.returns-in_default

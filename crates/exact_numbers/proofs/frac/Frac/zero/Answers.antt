@@ -1,5 +1,5 @@
 use Rattle.std.proofs.Common.{lit<}
-use Rattle.fractions.specs.LowestLemmas.{one_coprime}
+use Rattle.exact_numbers.specs.LowestLemmas.{one_coprime}
 use Rattle.exact_numbers.proofs.Bridge.{zero_is}
 use Rattle.exact_numbers.proofs.frac.Frac.zero.Goals as goal
 

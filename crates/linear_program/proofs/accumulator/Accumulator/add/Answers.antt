@@ -1,8 +1,8 @@
 use Rattle.std.proofs.Common.{◌≡◌, ◌∙◌, ◌<◌, ◌==◌, ◌∷◌, [], ap, refl, sym, subst, arith, length}
 use Rattle.exact_numbers.specs.Values.{frac_value}
-use Rattle.fractions.specs.Fits.{sum_fits}
-use Rattle.fractions.specs.Rational.{◌+ℚ◌, ◌*ℚ◌}
-use Rattle.program_meaning.specs.Lines.{one_if}
+use Rattle.exact_numbers.specs.Fits.{sum_fits}
+use Rattle.exact_numbers.specs.Rational.{◌+ℚ◌, ◌*ℚ◌}
+use Rattle.linear_program.specs.Lines.{one_if}
 use Rattle.linear_program.specs.Places.{AreListed, all_places, place_in, put_all}
 use Rattle.linear_program.proofs.CoefLemmas.{below_append, nothing_added}
 use Rattle.linear_program.proofs.HeldPlaces.{all_zeros}

@@ -10,7 +10,10 @@ pub returns-then-is_empty-clause-coefficients : goal.returns-then-is_empty-claus
 returns-then-is_empty-clause-coefficients c =
     let w = c.self.inside in
     let none = none_there w.listed (c.if-is_empty.ensures ∙ ap (λ l. length l == 0) c.items.ensures.items) in
-    let same : (j : ℕ) → place_in w.places j ≡ place_in c.args.self.now j = λ j. all_place w.count w.empty c.self.invariant.absent w.places j ∙ ap (λ l. place_in (put_all l (all_places w.count w.empty w.places)) j) (sym none) ∙ ap (λ l. place_in l j) c.self.view_is in
+    let same : (j : ℕ) → place_in w.places j ≡ place_in c.args.self.now j =
+    λ j. all_place w.count w.empty c.self.invariant.absent w.places j
+    ∙ ap (λ l. place_in (put_all l (all_places w.count w.empty w.places)) j) (sym none)
+    ∙ ap (λ l. place_in l j) c.self.view_is in
     IfOk-weaker c.take.result _ _ (λ r h j. h j ∙ same j) c.take.ensures.coefficients
 
 pub returns-then-is_empty-clause-zeros : goal.returns-then-is_empty-clause-zeros

@@ -1,6 +1,6 @@
 use Rattle.std.proofs.Common.{◌∙◌, ap, subst, subst₂, sym}
 use Rattle.exact_numbers.specs.Values.{frac_value}
-use Rattle.program_meaning.specs.Lines.{Line}
+use Rattle.linear_program.specs.Lines.{Line}
 use Rattle.linear_program.specs.Forms.{AddsScaled, IsWithin, form_line, is_kept_open, kept_constant, kept_places, kept_terms, parts_line}
 use Rattle.linear_program.proofs.PlaceTerms.{lines_after, open_line}
 use Rattle.linear_program.proofs.form.Form.add_scaled.Goals as goal

@@ -1,6 +1,6 @@
 use Rattle.std.proofs.Common.{◌∙◌, ap, subst₂, sym}
 use Rattle.exact_numbers.specs.Values.{frac_value}
-use Rattle.program_meaning.specs.Lines.{Line}
+use Rattle.linear_program.specs.Lines.{Line}
 use Rattle.linear_program.specs.Coefs.{AddsAt}
 use Rattle.linear_program.specs.Forms.{kept_constant, kept_terms, parts_line}
 use Rattle.linear_program.proofs.PlaceTerms.{open_line}

@@ -1,6 +1,6 @@
 use Rattle.std.proofs.Common.{◌∙◌, ◌<◌, length, sym, ap, subst}
 use Rattle.exact_numbers.specs.Values.{frac_value}
-use Rattle.fractions.specs.Fits.{sum_fits}
+use Rattle.exact_numbers.specs.Fits.{sum_fits}
 use Rattle.linear_program.specs.Places.{AreMarked}
 use Rattle.linear_program.proofs.CoefLemmas.{not_zero}
 use Rattle.linear_program.proofs.PlaceLemmas.{kept_marks, new_mark, place_at, seen_place, seen_write}
@@ -8,7 +8,8 @@ use Rattle.linear_program.proofs.marked_places.MarkedPlaces.add.Goals as goal
 
 pub returns-in_default-clause-adds : goal.returns-in_default-clause-adds
 returns-in_default-clause-adds c =
-    ap (λ x. sum_fits x (frac_value c.args.factor)) (seen_place c.self.inside.places.items c.args.self.now c.self.view_is c.args.variable c.index-old.result.now c.requires c.index-old.ensures) ∙ c.in_default.ensures
+    ap (λ x. sum_fits x (frac_value c.args.factor)) (seen_place c.self.inside.places.items c.args.self.now
+    c.self.view_is c.args.variable c.index-old.result.now c.requires c.index-old.ensures) ∙ c.in_default.ensures
 
 pub invariant_of-self : goal.invariant_of-self
 invariant_of-self c =
@@ -18,8 +19,10 @@ invariant_of-self c =
 
 pub returns-then-not-is_zero-clause-adds : goal.returns-then-not-is_zero-clause-adds
 returns-then-not-is_zero-clause-adds c = (
-  ap (λ x. sum_fits x (frac_value c.args.factor)) (seen_place c.self.inside.places.items c.args.self.now c.self.view_is c.args.variable c.index-old.result.now c.requires c.index-old.ensures) ∙ c.in-Some.ensures.0,
-  seen_write c.self.inside.places.items c.args.self.now c.self.view_is c.args.variable c.index-old.result.now c.requires c.index-old.ensures c.in-Some.sum (frac_value c.args.factor) c.in-Some.ensures.1,
+  ap (λ x. sum_fits x (frac_value c.args.factor)) (seen_place c.self.inside.places.items c.args.self.now c.self.view_is
+      c.args.variable c.index-old.result.now c.requires c.index-old.ensures) ∙ c.in-Some.ensures.0,
+  seen_write c.self.inside.places.items c.args.self.now c.self.view_is c.args.variable c.index-old.result.now c.requires
+      c.index-old.ensures c.in-Some.sum (frac_value c.args.factor) c.in-Some.ensures.1,
 )
 
 pub invariant_of-self-2 : goal.invariant_of-self-2
@@ -29,6 +32,8 @@ invariant_of-self-2 c =
 
 pub returns-clause-adds : goal.returns-clause-adds
 returns-clause-adds c = (
-  ap (λ x. sum_fits x (frac_value c.args.factor)) (seen_place c.self.inside.places.items c.args.self.now c.self.view_is c.args.variable c.index-old.result.now c.requires c.index-old.ensures) ∙ c.in-Some.ensures.0,
-  seen_write c.self.inside.places.items c.args.self.now c.self.view_is c.args.variable c.index-old.result.now c.requires c.index-old.ensures c.in-Some.sum (frac_value c.args.factor) c.in-Some.ensures.1,
+  ap (λ x. sum_fits x (frac_value c.args.factor)) (seen_place c.self.inside.places.items c.args.self.now c.self.view_is
+      c.args.variable c.index-old.result.now c.requires c.index-old.ensures) ∙ c.in-Some.ensures.0,
+  seen_write c.self.inside.places.items c.args.self.now c.self.view_is c.args.variable c.index-old.result.now c.requires
+      c.index-old.ensures c.in-Some.sum (frac_value c.args.factor) c.in-Some.ensures.1,
 )

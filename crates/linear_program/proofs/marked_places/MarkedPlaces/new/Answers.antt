@@ -10,4 +10,6 @@ invariant_of-result c =
     let n = c.args.count in
     let z = c.args.zero in
     let is : c.in_ok-places.places.items ≡ replicate n z = c.in_ok-places.ensures.items_if_clones_equal (λ y h. h) in
-    no_marks c.in_ok-places.places.items c.new.result.items (let h = ap length is ∙ length-replicate n z in let f = c.ranges.count.fits in omega arith) c.new.ensures.items (subst AreZeros (sym is) (empty_zeros n z c.requires))
+    no_marks c.in_ok-places.places.items c.new.result.items
+    (let h = ap length is ∙ length-replicate n z in let f = c.ranges.count.fits in omega arith) c.new.ensures.items
+    (subst AreZeros (sym is) (empty_zeros n z c.requires))

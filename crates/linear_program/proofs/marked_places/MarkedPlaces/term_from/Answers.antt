@@ -14,7 +14,8 @@ pub returns-then-not-is_zero-clause-term : goal.returns-then-not-is_zero-clause-
 returns-then-not-is_zero-clause-term c =
     let within : c.loop-place.place < length c.self.inside.places.items = let h = c.loop-place-test.true in (let l = c.len-place-end.ensures in omega (arith, c.self.inside.places.ok.0)) in
     sym c.loop-place.invariant
-    ∙ term_here c.self.inside.places.items c.args.self.now c.self.view_is c.loop-place.place c.index-value.result.now within c.index-value.ensures (not_zero c.is_zero.result _ c.is_zero.ensures.1 c.if-not-is_zero.true)
+    ∙ term_here c.self.inside.places.items c.args.self.now c.self.view_is c.loop-place.place c.index-value.result.now
+    within c.index-value.ensures (not_zero c.is_zero.result _ c.is_zero.ensures.1 c.if-not-is_zero.true)
 
 pub loop-place-preserved : goal.loop-place-preserved
 loop-place-preserved c =

@@ -1,7 +1,7 @@
 use Rattle.std.proofs.Common.{◌∙◌, sym, ap, subst, refl}
 use Rattle.exact_numbers.specs.Values.{frac_value}
-use Rattle.fractions.specs.Fits.{fits, sum_fits}
-use Rattle.fractions.specs.Rational.{◌+ℚ◌, ◌*ℚ◌}
+use Rattle.exact_numbers.specs.Fits.{fits, sum_fits}
+use Rattle.exact_numbers.specs.Rational.{◌+ℚ◌, ◌*ℚ◌}
 use Rattle.linear_program.specs.Coefs.{AreBelow}
 use Rattle.linear_program.specs.Forms.{SumsUp, form_line, form_terms, place_count, sum_line}
 use Rattle.linear_program.specs.Places.{place_in}
@@ -22,7 +22,14 @@ returns-clause-sums g c =
     let sum = c.in-Some-add.ensures in
     let other = ap (λ x. k *ℚ x) c.constant.ensures in
     let scaled = product.1 ∙ other in
-    scaled_parts (sum_line c.args.self.now) (form_line c.args.form.now) (frac_value c.in-Some-add.sum) k (form_terms c.args.form.now) (place_fits c.args.self.now.accumulator.value) c.terms-terms.ensures.ascending (λ j. refl)
+    scaled_parts (sum_line c.args.self.now) (form_line c.args.form.now) (frac_value c.in-Some-add.sum) k
+    (form_terms c.args.form.now) (place_fits c.args.self.now.accumulator.value) c.terms-terms.ensures.ascending
+    (λ j. refl)
     (ap (λ x. fits (k *ℚ x)) (sym c.constant.ensures) ∙ product.0) (ap (sum_fits own) (sym scaled) ∙ sum.0) (sum.1 ∙ ap (λ x. own +ℚ x) scaled)
     (sum_line c.add_terms.new.self) c.add_terms.result
-    (subst (λ ts. SumsUp (record { constant = frac_value c.in-Some-add.sum; coef = place_in c.args.self.now.accumulator.value }) k ts (sum_line c.add_terms.new.self) c.add_terms.result) c.terms-terms.ensures.terms c.add_terms.ensures.sums)
+    (subst (λ ts. SumsUp (record {
+      constant = frac_value c.in-Some-add.sum;
+      coef =
+          place_in c.args.self.now.accumulator.value;
+    }) k ts (sum_line c.add_terms.new.self) c.add_terms.result)
+    c.terms-terms.ensures.terms c.add_terms.ensures.sums)

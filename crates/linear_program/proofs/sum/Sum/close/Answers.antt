@@ -12,4 +12,6 @@ pub returns-clause-terms : goal.returns-clause-terms
 returns-clause-terms c =
     let ps = c.args.self.accumulator.value in
     c.of_parts-form.ensures.terms
-    ∙ same_terms 0 _ (terms_from 0 ps) c.ordered-ascending.ensures.ascending (terms_ascend 0 ps) (λ j. c.in_ok-coefficients.ensures.coefficients j ∙ ap (λ l. place_in l j) c.deref_mut.ensures.value ∙ sym (terms_coef ps j))
+    ∙ same_terms 0 _ (terms_from 0 ps) c.ordered-ascending.ensures.ascending (terms_ascend 0 ps)
+    (λ j. c.in_ok-coefficients.ensures.coefficients j ∙ ap (λ l. place_in l j) c.deref_mut.ensures.value
+    ∙ sym (terms_coef ps j))

@@ -7,4 +7,6 @@ use Rattle.mps_model.proofs.builder.MpsBuilder.add_column.Goals as goal
 pub invariant_of-self-2 : goal.invariant_of-self-2
 invariant_of-self-2 c =
     rw (c.in_ok-push.ensures.items, c.of-column.ensures)
-    (entries_added _ _ _ _ _ c.self.invariant c.self.view_is c.requires.column (omega (arith, c.requires.entries.few, length-map c.args.entries.items entry_of)) c.requires.entries.rows c.bytes-bytes.ensures.name)
+    (entries_added _ _ _ _ _ c.self.invariant c.self.view_is c.requires.column
+    (omega (arith, c.requires.entries.few, length-map c.args.entries.items entry_of)) c.requires.entries.rows
+    c.bytes-bytes.ensures.name)

@@ -13,9 +13,13 @@ returns-in-Columns c =
 pub returns-in-Rhs : goal.returns-in-Rhs
 returns-in-Rhs c =
     subst (λ (k : Keyword). IfSome c.after_set.result (λ rest. IsAfterHead k c.args.self.now c.args.text.now rest.now)) (sym c.in-Rhs.is)
-    (some_more c.after_set.result (λ rest. IsAfterHead Bounds c.args.self.now c.args.text.now rest.now) (λ rest. IsAfterHead Rhs c.args.self.now c.args.text.now rest.now) (λ rest o. (set_of_sides c.args.self.now c.args.text.now rest.now o).0) c.after_set.ensures)
+    (some_more c.after_set.result (λ rest. IsAfterHead Bounds c.args.self.now c.args.text.now rest.now)
+    (λ rest. IsAfterHead Rhs c.args.self.now c.args.text.now rest.now)
+    (λ rest o. (set_of_sides c.args.self.now c.args.text.now rest.now o).0) c.after_set.ensures)
 
 pub returns-in-Ranges : goal.returns-in-Ranges
 returns-in-Ranges c =
     subst (λ (k : Keyword). IfSome c.after_set-in-Ranges.result (λ rest. IsAfterHead k c.args.self.now c.args.text.now rest.now)) (sym c.in-Ranges.is)
-    (some_more c.after_set-in-Ranges.result (λ rest. IsAfterHead Bounds c.args.self.now c.args.text.now rest.now) (λ rest. IsAfterHead Ranges c.args.self.now c.args.text.now rest.now) (λ rest o. (set_of_sides c.args.self.now c.args.text.now rest.now o).1) c.after_set-in-Ranges.ensures)
+    (some_more c.after_set-in-Ranges.result (λ rest. IsAfterHead Bounds c.args.self.now c.args.text.now rest.now)
+    (λ rest. IsAfterHead Ranges c.args.self.now c.args.text.now rest.now)
+    (λ rest o. (set_of_sides c.args.self.now c.args.text.now rest.now o).1) c.after_set-in-Ranges.ensures)

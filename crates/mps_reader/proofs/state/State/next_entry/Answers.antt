@@ -20,17 +20,23 @@ pub may_take_row-requires-clause-may : goal.may_take_row-requires-clause-may
 may_take_row-requires-clause-may c = may (goal.at.may_take_row-requires-clause-may c).In-Some-short_pair
 
 pub may_take_row-requires-clause-within : goal.may_take_row-requires-clause-within
-may_take_row-requires-clause-within c = pair_there c.args.self.now c.in-Some-after_last_word.rest.now c.in-Some-short_pair.pair.rest.now c.in-Some-short_pair.pair.row c.in-Some-short_pair.pair.value c.requires.kept c.in-Some-short_pair.ensures
+may_take_row-requires-clause-within c = pair_there c.args.self.now c.in-Some-after_last_word.rest.now
+    c.in-Some-short_pair.pair.rest.now c.in-Some-short_pair.pair.row c.in-Some-short_pair.pair.value c.requires.kept
+    c.in-Some-short_pair.ensures
 
 pub returns-clause-may : goal.returns-clause-may
 returns-clause-may c = may (goal.at.returns-clause-may c).In-Some-short_pair
 
 pub returns-clause-can : goal.returns-clause-can
 returns-clause-can c =
-    pair_can Columns c.args.self.now c.in-Some-after_last_word.rest.now c.in-Some-short_pair.pair.rest.now c.in-Some-short_pair.pair.row c.in-Some-short_pair.pair.value (may (goal.at.returns-clause-can c).In-Some-short_pair) c.in-Some-short_pair.ensures (c.may_take_row.ensures c.if-not-may_take_row.false)
+    pair_can Columns c.args.self.now c.in-Some-after_last_word.rest.now c.in-Some-short_pair.pair.rest.now
+    c.in-Some-short_pair.pair.row c.in-Some-short_pair.pair.value
+    (may (goal.at.returns-clause-can c).In-Some-short_pair) c.in-Some-short_pair.ensures
+    (c.may_take_row.ensures c.if-not-may_take_row.false)
 
 pub returns-clause-next : goal.returns-clause-next
 returns-clause-next c =
     let d = (goal.at.returns-clause-next c).In-Some-short_pair in
-    next_is_pair Columns c.args.self.now c.args.text.now c.in-Some.line.now c.in-Some-after_last_word.rest.now c.in-Some-short_pair.pair.rest.now c.in-Some-short_pair.pair.row c.in-Some-short_pair.pair.value
+    next_is_pair Columns c.args.self.now c.args.text.now c.in-Some.line.now c.in-Some-after_last_word.rest.now
+    c.in-Some-short_pair.pair.rest.now c.in-Some-short_pair.pair.row c.in-Some-short_pair.pair.value
     (may d) c.in-Some.ensures (head d) c.in-Some-short_pair.ensures (c.may_take_row.ensures c.if-not-may_take_row.false)

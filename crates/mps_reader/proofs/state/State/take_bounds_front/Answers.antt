@@ -11,6 +11,8 @@ bounds-smaller c =
 pub bounds-preserved : goal.bounds-preserved
 bounds-preserved c =
     record {
-      taken = one_before Bounds c.args.self.now c.bounds.self _ c.add_bound.new.self c.args.text.now c.bounds.rest.now c.in-Some.bound.rest.now c.bounds.lines c.bounds.invariant.taken c.in-Some.ensures.next c.in-Ok.ensures.bound c.in-Ok.ensures.kept;
+      taken = one_before Bounds c.args.self.now c.bounds.self _ c.add_bound.new.self c.args.text.now c.bounds.rest.now
+          c.in-Some.bound.rest.now c.bounds.lines c.bounds.invariant.taken c.in-Some.ensures.next c.in-Ok.ensures.bound
+          c.in-Ok.ensures.kept;
       begun = ap (λ (h : Held). h.standing.begun) c.in-Ok.ensures.bound ∙ c.bounds.invariant.begun;
     }

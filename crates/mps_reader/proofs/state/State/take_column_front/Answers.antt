@@ -15,11 +15,15 @@ overflow_sub-result c = next_fits Columns c.args.self.now _ c.args.text.now c.in
 
 pub returns-in-Ok-clause-lines : goal.returns-in-Ok-clause-lines
 returns-in-Ok-clause-lines c =
-    (next_taken Columns c.args.self.now _ c.add_first.new.self c.args.text.now c.in-Some.column.rest.now _ c.in-Some.ensures.next c.requires.sound c.in-Ok.ensures.ok (subst IsKept (sym c.in-Ok.ensures.ok) c.in-Some.ensures.kept) refl).0
+    (next_taken Columns c.args.self.now _ c.add_first.new.self c.args.text.now c.in-Some.column.rest.now _
+    c.in-Some.ensures.next c.requires.sound c.in-Ok.ensures.ok
+    (subst IsKept (sym c.in-Ok.ensures.ok) c.in-Some.ensures.kept) refl).0
 
 pub returns-in-Ok-clause-sound : goal.returns-in-Ok-clause-sound
 returns-in-Ok-clause-sound c = λ whole.
-    (next_taken Columns c.args.self.now _ c.add_first.new.self c.args.text.now c.in-Some.column.rest.now _ c.in-Some.ensures.next c.requires.sound c.in-Ok.ensures.ok (subst IsKept (sym c.in-Ok.ensures.ok) c.in-Some.ensures.kept) refl).1
+    (next_taken Columns c.args.self.now _ c.add_first.new.self c.args.text.now c.in-Some.column.rest.now _
+    c.in-Some.ensures.next c.requires.sound c.in-Ok.ensures.ok
+    (subst IsKept (sym c.in-Ok.ensures.ok) c.in-Some.ensures.kept) refl).1
 
 pub add_first-requires-clause-within : goal.add_first-requires-clause-within
 add_first-requires-clause-within c = c.in-Some.ensures.within

@@ -1,11 +1,13 @@
 use Rattle.std.proofs.Common.{arith}
-use Rattle.texts.proofs.FrontLemmas.{front_few}
+use Rattle.text_base.proofs.FrontLemmas.{front_few}
 use Rattle.mps_reader.proofs.FrontLines.{goes_on}
 use Rattle.mps_reader.proofs.state.State.take_column_lines.Goals as goal
 
 pub returns-clause-lines : goal.returns-clause-lines
 returns-clause-lines c =
-    goes_on c.args.self.now c.take_entries-front.new.self c.take_entry_front-next.new.self c.args.text.now c.split_at.result.1.now c.take_entries-front.result c.take_entry_front-next.result.front c.take_entries-front.ensures.lines c.split_at.ensures.back c.take_entry_front-next.ensures.lines
+    goes_on c.args.self.now c.take_entries-front.new.self c.take_entry_front-next.new.self c.args.text.now
+    c.split_at.result.1.now c.take_entries-front.result c.take_entry_front-next.result.front
+    c.take_entries-front.ensures.lines c.split_at.ensures.back c.take_entry_front-next.ensures.lines
 
 pub overflow_add-result-2 : goal.overflow_add-result-2
 overflow_add-result-2 c =

@@ -1,5 +1,5 @@
 use Rattle.std.proofs.Common.{◌∙◌, arith, refl, rules}
-use Rattle.texts.proofs.FrontLemmas.{front_few}
+use Rattle.text_base.proofs.FrontLemmas.{front_few}
 use Rattle.mps_reader.proofs.FrontLines.{goes_on, none_taken}
 use Rattle.mps_reader.proofs.state.State.take_columns_front.Goals as goal
 
@@ -14,7 +14,9 @@ overflow_add-front-in-columns c =
 
 pub returns-then-next-clause-lines : goal.returns-then-next-clause-lines
 returns-then-next-clause-lines c =
-    goes_on c.args.self.now c.columns.self c.take_column_lines-next.new.self c.args.text.now c.split_at.result.1.now c.columns.front c.take_column_lines-next.result.front c.columns.invariant.takes c.split_at.ensures.back c.take_column_lines-next.ensures.lines
+    goes_on c.args.self.now c.columns.self c.take_column_lines-next.new.self c.args.text.now c.split_at.result.1.now
+    c.columns.front c.take_column_lines-next.result.front c.columns.invariant.takes c.split_at.ensures.back
+    c.take_column_lines-next.ensures.lines
 
 pub columns-preserved : goal.columns-preserved
 columns-preserved c =
@@ -23,7 +25,9 @@ columns-preserved c =
     record {
       within = omega (arith, c.columns.invariant.within, line.is.within, c.split_at.ensures.back_len);
       few = omega (arith, c.columns.invariant.few, more);
-      takes = goes_on c.args.self.now c.columns.self c.take_column_lines-next.new.self c.args.text.now c.split_at.result.1.now c.columns.front c.take_column_lines-next.result.front c.columns.invariant.takes c.split_at.ensures.back line;
+      takes = goes_on c.args.self.now c.columns.self c.take_column_lines-next.new.self c.args.text.now
+          c.split_at.result.1.now c.columns.front c.take_column_lines-next.result.front c.columns.invariant.takes
+          c.split_at.ensures.back line;
       sound = c.take_column_lines-next.ensures.sound (search rules);
       begun = c.take_column_lines-next.ensures.same ∙ c.columns.invariant.begun;
     }

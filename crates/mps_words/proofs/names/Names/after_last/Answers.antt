@@ -3,7 +3,7 @@ use Rattle.std.specs.Prelude.{IfSome}
 use Rattle.std.proofs.lemmas.List.{length-map}
 use Rattle.mps_words.specs.InsideCodes.{name_of}
 use Rattle.mps_words.specs.Names.{last_name}
-use Rattle.texts.proofs.NamePlaces.{texts_of}
+use Rattle.text_base.proofs.NamePlaces.{texts_of}
 use Rattle.mps_words.proofs.CodeLemmas.{last_by_code}
 use Rattle.mps_words.proofs.KeptNames.{as_seen, codes_kept, codes_seen, set_seen, last_code, name_of_last, always}
 use Rattle.mps_words.proofs.names.Names.after_last.Goals as goal
@@ -12,7 +12,9 @@ pub returns-in-Some-clause-name : goal.returns-in-Some-clause-name
 returns-in-Some-clause-name c =
     let seen : texts_of c.in-Some.names.keys ≡ c.args.self.now = set_seen _ c.self.inside.codes _ _ (ap (option_map (λ s. texts_of s.keys)) c.in-Some.is) c.self.view_is in
     let size : length c.in-Some.names.keys ≡ length c.args.self.now = sym (length-map c.in-Some.names.keys (λ k. k.items)) ∙ ap length seen in
-    name_of_last c.after_last.result c.self.inside.codes c.args.self.now (as_seen _ c.self.inside.codes _ c.self.invariant c.self.view_is) (subst (λ (n : ℕ). IfSome c.after_last.result (λ rest. 0 < n)) size c.after_last.ensures.some)
+    name_of_last c.after_last.result c.self.inside.codes c.args.self.now
+    (as_seen _ c.self.inside.codes _ c.self.invariant c.self.view_is)
+    (subst (λ (n : ℕ). IfSome c.after_last.result (λ rest. 0 < n)) size c.after_last.ensures.some)
 
 pub returns-in-Some-last-clause-parts : goal.returns-in-Some-last-clause-parts
 returns-in-Some-last-clause-parts c =

@@ -2,7 +2,7 @@ use Rattle.std.proofs.Common.{◌≡◌, ◌∙◌, List, ℕ, [], true, nat_eq,
 use Rattle.std.specs.Str.{bytes_eq}
 use Rattle.mps_words.specs.InsideCodes.{name_of}
 use Rattle.mps_words.specs.Names.{last_name}
-use Rattle.texts.proofs.NamePlaces.{texts_of}
+use Rattle.text_base.proofs.NamePlaces.{texts_of}
 use Rattle.mps_words.proofs.CodeLemmas.{are_bytes, last_is_name, same_test, last_by_code, no_last}
 use Rattle.mps_words.proofs.KeptNames.{as_seen, codes_kept, codes_seen, set_seen, last_code}
 use Rattle.mps_words.proofs.NameLemmas.{no_bytes}

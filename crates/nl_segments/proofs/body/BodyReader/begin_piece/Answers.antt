@@ -6,19 +6,24 @@ use Rattle.nl_segments.proofs.PieceFronts.{few_nodes, leaf_taken, leaf_there, ma
 use Rattle.nl_segments.proofs.body.BodyReader.begin_piece.Goals as goal
 
 pub body-requires-clause-con : goal.body-requires-clause-con
-body-requires-clause-con c = (may_take_leaf (body_of c.args.self.now) c.args.head c.in-Some.first.con c.args.line c.args.text.now c.in-Some.first.len c.in-Some.first.tree c.in-Some.ensures c.requires.may).fresh.0
+body-requires-clause-con c = (may_take_leaf (body_of c.args.self.now) c.args.head c.in-Some.first.con c.args.line
+    c.args.text.now c.in-Some.first.len c.in-Some.first.tree c.in-Some.ensures c.requires.may).fresh.0
 
 pub body-requires-clause-fresh : goal.body-requires-clause-fresh
-body-requires-clause-fresh c = (may_take_leaf (body_of c.args.self.now) c.args.head c.in-Some.first.con c.args.line c.args.text.now c.in-Some.first.len c.in-Some.first.tree c.in-Some.ensures c.requires.may).fresh.1
+body-requires-clause-fresh c = (may_take_leaf (body_of c.args.self.now) c.args.head c.in-Some.first.con c.args.line
+    c.args.text.now c.in-Some.first.len c.in-Some.first.tree c.in-Some.ensures c.requires.may).fresh.1
 
 pub body-requires-clause-within : goal.body-requires-clause-within
-body-requires-clause-within c = (may_take_leaf (body_of c.args.self.now) c.args.head c.in-Some.first.con c.args.line c.args.text.now c.in-Some.first.len c.in-Some.first.tree c.in-Some.ensures c.requires.may).within
+body-requires-clause-within c = (may_take_leaf (body_of c.args.self.now) c.args.head c.in-Some.first.con c.args.line
+    c.args.text.now c.in-Some.first.len c.in-Some.first.tree c.in-Some.ensures c.requires.may).within
 
 pub pass_head-requires-clause-owner : goal.pass_head-requires-clause-owner
-pass_head-requires-clause-owner c = (may (body_of c.args.self.now) c.args.head c.in-Some.first.con c.args.line c.args.text.now c.in-Some.first.len c.in-Some.first.tree c.in-Some.ensures c.requires.may).owner
+pass_head-requires-clause-owner c = (may (body_of c.args.self.now) c.args.head c.in-Some.first.con c.args.line
+    c.args.text.now c.in-Some.first.len c.in-Some.first.tree c.in-Some.ensures c.requires.may).owner
 
 pub pass_head-requires-clause-seen : goal.pass_head-requires-clause-seen
-pass_head-requires-clause-seen c = (may (body_of c.args.self.now) c.args.head c.in-Some.first.con c.args.line c.args.text.now c.in-Some.first.len c.in-Some.first.tree c.in-Some.ensures c.requires.may).seen
+pass_head-requires-clause-seen c = (may (body_of c.args.self.now) c.args.head c.in-Some.first.con c.args.line
+    c.args.text.now c.in-Some.first.len c.in-Some.first.tree c.in-Some.ensures c.requires.may).seen
 
 pub add_nodes-requires-clause-owner : goal.add_nodes-requires-clause-owner
 add_nodes-requires-clause-owner c =
@@ -28,7 +33,9 @@ add_nodes-requires-clause-owner c =
 pub add_nodes-requires-clause-next : goal.add_nodes-requires-clause-next
 add_nodes-requires-clause-next c =
     ap (λ (x : Body). nodes_follow x.places (BodyHead c.in-Some.first.con) (c.args.line + 1)) c.pass_head.ensures
-    ∙ nodes_begin c.args.self.now.places c.in-Some.first.con c.args.line (c.args.line + 1) (may (body_of c.args.self.now) c.args.head c.in-Some.first.con c.args.line c.args.text.now c.in-Some.first.len c.in-Some.first.tree c.in-Some.ensures c.requires.may).owner
+    ∙ nodes_begin c.args.self.now.places c.in-Some.first.con c.args.line (c.args.line + 1)
+    (may (body_of c.args.self.now) c.args.head c.in-Some.first.con c.args.line c.args.text.now c.in-Some.first.len
+    c.in-Some.first.tree c.in-Some.ensures c.requires.may).owner
 
 pub overflow_add-self : goal.overflow_add-self
 overflow_add-self c =

@@ -14,7 +14,8 @@ add_term-requires c =
 
 pub close_line-requires-clause-can : goal.close_line-requires-clause-can
 close_line-requires-clause-can c =
-    (can_keep _ c.args.head c.args.pair c.args.line (piece_of (body_of c.args.self.now) c.args.head c.requires.awaited c.requires.head) c.requires.good c.requires.held).close _ c.in_ok-give_pair.ensures.ok
+    (can_keep _ c.args.head c.args.pair c.args.line (piece_of (body_of c.args.self.now) c.args.head c.requires.awaited
+    c.requires.head) c.requires.good c.requires.held).close _ c.in_ok-give_pair.ensures.ok
 
 pub mark-requires : goal.mark-requires
 mark-requires c = (can_keep _ c.args.head c.args.pair c.args.line (piece_of (body_of c.args.self.now) c.args.head c.requires.awaited c.requires.head) c.requires.good c.requires.held).room

@@ -31,7 +31,9 @@ is_new c =
     record {
       draft = c.in_ok-builder.ensures;
       current = refl;
-      room = λ head. subst (λ n. index_limit c.args.header.counts head ≤ n) (sym (ap length c.in_ok-marks.ensures ∙ length-replicate c.most_indices.result false)) (subst (λ k. index_limit k head ≤ c.most_indices.result) c.counts.ensures.value (c.most_indices.ensures head));
+      room = λ head. subst (λ n. index_limit c.args.header.counts head ≤ n)
+          (sym (ap length c.in_ok-marks.ensures ∙ length-replicate c.most_indices.result false))
+          (subst (λ k. index_limit k head ≤ c.most_indices.result) c.counts.ensures.value (c.most_indices.ensures head));
       seen = c.in_ok-seen.ensures ∙ ap no_segments c.counts.ensures.value;
       nodes = refl;
       linear = refl;

@@ -1,4 +1,4 @@
-use Rattle.texts.specs.Words.{texts}
+use Rattle.text_base.specs.Words.{texts}
 use Rattle.nl_segments.specs.Held.{body_of}
 use Rattle.nl_segments.proofs.PairHeld.{column_refused}
 use Rattle.nl_lines.proofs.WholeRows.{column_row}

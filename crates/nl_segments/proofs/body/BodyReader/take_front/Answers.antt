@@ -1,5 +1,5 @@
 use Rattle.std.proofs.Common.{arith}
-use Rattle.texts.proofs.FrontLemmas.{front_few}
+use Rattle.text_base.proofs.FrontLemmas.{front_few}
 use Rattle.nl_segments.specs.Held.{body_of}
 use Rattle.nl_segments.proofs.StandingLemmas.{goes_on, still_some}
 use Rattle.nl_segments.proofs.body.BodyReader.take_front.Goals as goal
@@ -15,7 +15,9 @@ overflow_add-front-in-runs c =
 
 pub returns-then-run-eq0 : goal.returns-then-run-eq0
 returns-then-run-eq0 c =
-    goes_on (body_of c.args.self.now) (body_of c.runs.self) (body_of c.take_run-run.new.self) c.args.piece.now c.split_at.result.1.now c.args.number c.runs.front c.take_run-run.result c.runs.invariant.takes c.split_at.ensures.back c.take_run-run.ensures
+    goes_on (body_of c.args.self.now) (body_of c.runs.self) (body_of c.take_run-run.new.self) c.args.piece.now
+    c.split_at.result.1.now c.args.number c.runs.front c.take_run-run.result c.runs.invariant.takes
+    c.split_at.ensures.back c.take_run-run.ensures
 
 pub runs-preserved : goal.runs-preserved
 runs-preserved c =
@@ -24,5 +26,7 @@ runs-preserved c =
     record {
       within = omega (arith, c.runs.invariant.within, run.is.within, c.split_at.ensures.back_len);
       few = omega (arith, c.runs.invariant.few, more);
-      takes = goes_on (body_of c.args.self.now) (body_of c.runs.self) (body_of c.take_run-run.new.self) c.args.piece.now c.split_at.result.1.now c.args.number c.runs.front c.take_run-run.result c.runs.invariant.takes c.split_at.ensures.back run;
+      takes = goes_on (body_of c.args.self.now) (body_of c.runs.self) (body_of c.take_run-run.new.self) c.args.piece.now
+          c.split_at.result.1.now c.args.number c.runs.front c.take_run-run.result c.runs.invariant.takes
+          c.split_at.ensures.back run;
     }

@@ -1,6 +1,6 @@
 use Rattle.std.proofs.Common.{◌∙◌, sym, ap, subst, Some}
-use Rattle.texts.specs.Names.{IsName}
-use Rattle.texts.specs.Words.{texts}
+use Rattle.text_base.specs.Names.{IsName}
+use Rattle.text_base.specs.Words.{texts}
 use Rattle.nl_model.specs.Draft.{Draft}
 use Rattle.nl_lines.specs.Heads.{name_in}
 use Rattle.nl_segments.specs.InsideHeadSteps.{has_come_suffix, begun_current, begun_name, begun_draft}
@@ -42,7 +42,8 @@ returns c =
     let b = body_of c.args.self.now in
     head_step b _ c.is_some-is_open.result (texts c.args.words.now) c.args.line c.in-Ok.head c.is_some-is_open.ensures c.requires.row c.in-Ok.ensures.1 c.in-Ok.ensures.0
     (λ i. record {
-      draft = (c.in_ok-give_empty_suffix.ensures ∙ ap (λ d. begun_draft d c.in-Ok.head c.word_at-name.result.now) c.in_ok-make_room.ensures ∙ ap (begun_draft b.draft c.in-Ok.head) c.word_at-name.ensures) i;
+      draft = (c.in_ok-give_empty_suffix.ensures ∙ ap (λ d. begun_draft d c.in-Ok.head c.word_at-name.result.now)
+          c.in_ok-make_room.ensures ∙ ap (begun_draft b.draft c.in-Ok.head) c.word_at-name.ensures) i;
       current = (c.begun_current.ensures ∙ ap (λ k. begun_current k c.in-Ok.head c.args.line) (c.counts.ensures.value ∙ c.header.ensures.counts)) i;
       name = (c.in_ok-self.ensures ∙ ap (begun_name c.in-Ok.head) c.word_at-name.ensures) i;
       marks = c.clear.ensures i;

@@ -1,6 +1,6 @@
 use Rattle.std.proofs.Common.{◌≡◌, ◌∙◌, ap, arith, sym, subst, None, [], ◌∷◌}
-use Rattle.texts.specs.Judged.{first_reason}
-use Rattle.texts.proofs.FrontLemmas.{front_few}
+use Rattle.text_base.specs.Judged.{first_reason}
+use Rattle.text_base.proofs.FrontLemmas.{front_few}
 use Rattle.nl_segments.specs.Held.{body_of}
 use Rattle.nl_segments.specs.InsideHeadSteps.{held_head_tests}
 use Rattle.nl_segments.specs.InsidePieces.{with_given_head}
@@ -41,5 +41,8 @@ returns c =
     let h = c.in-Some.first.head in
     let fine : first_reason (held_head_tests b.draft.counts b.seen b.draft.suffixes b.suffixes [] h) ≡ None =
     ap (λ name. first_reason (held_head_tests b.draft.counts b.seen b.draft.suffixes b.suffixes name h)) (sym c.as_slice-name.ensures) ∙ c.in-Ok.ensures.0 in
-    goes_on b (with_given_head b h c.args.number) (body_of c.begin_piece.new.self) c.args.piece.now c.split_at.result.1.now c.args.number (record { len = c.in-Some.first.len; lines = 1 }) c.in-Some-begin_piece.behind
-    (head_first b c.is_some-is_open.result c.args.piece.now c.args.number c.in-Some.first.len h c.in-Some.ensures c.is_some-is_open.ensures c.if-is_open.false fine) c.split_at.ensures.back c.in-Some-begin_piece.ensures
+    goes_on b (with_given_head b h c.args.number) (body_of c.begin_piece.new.self) c.args.piece.now
+    c.split_at.result.1.now c.args.number (record { len = c.in-Some.first.len; lines = 1 })
+    c.in-Some-begin_piece.behind
+    (head_first b c.is_some-is_open.result c.args.piece.now c.args.number c.in-Some.first.len h c.in-Some.ensures
+    c.is_some-is_open.ensures c.if-is_open.false fine) c.split_at.ensures.back c.in-Some-begin_piece.ensures

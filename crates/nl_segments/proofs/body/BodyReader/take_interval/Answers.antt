@@ -1,6 +1,6 @@
 use Rattle.std.proofs.Common.{◌∙◌, sym, ap, subst}
-use Rattle.texts.specs.Judged.{first_reason}
-use Rattle.texts.specs.Words.{texts}
+use Rattle.text_base.specs.Judged.{first_reason}
+use Rattle.text_base.specs.Words.{texts}
 use Rattle.nl_segments.specs.Held.{body_of}
 use Rattle.nl_segments.specs.InsideLineSteps.{next_interval_tests, with_interval, HasRoom}
 use Rattle.nl_lines.specs.Tests.{is_sides}

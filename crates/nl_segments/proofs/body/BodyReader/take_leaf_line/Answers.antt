@@ -9,7 +9,9 @@ take_next_row-taken-requires c =
 
 pub returns : goal.returns
 returns c =
-    leaf_first (body_of c.args.self.now) c.args.piece.now c.args.number c.in-Some.first.len c.in-Some.first.leaf c.in-Ok.row c.row_count.result c.take_next_row-taken.new.builder c.take_next_row-taken.new.current c.take_next_row-taken.new.places
+    leaf_first (body_of c.args.self.now) c.args.piece.now c.args.number c.in-Some.first.len c.in-Some.first.leaf
+    c.in-Ok.row c.row_count.result c.take_next_row-taken.new.builder c.take_next_row-taken.new.current
+    c.take_next_row-taken.new.places
     c.requires.awaited c.in-Some.ensures c.in-Ok.ensures c.row_count.ensures (c.take_next_row-taken.ensures.places c.if-not-taken.false) (c.take_next_row-taken.ensures.settled c.if-not-taken.false)
 
 pub overflow_add-self : goal.overflow_add-self

@@ -1,4 +1,4 @@
-use Rattle.texts.specs.Words.{texts}
+use Rattle.text_base.specs.Words.{texts}
 use Rattle.nl_segments.specs.Held.{body_of}
 use Rattle.nl_segments.proofs.NodeSteps.{node_refused}
 use Rattle.nl_segments.proofs.body.BodyReader.take_node.Goals as goal

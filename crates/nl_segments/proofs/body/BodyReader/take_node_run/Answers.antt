@@ -25,7 +25,9 @@ returns c =
     let next = c.take_nodes-front.new.self in
     let front = c.take_nodes-front.result in
     let same = c.take_nodes-front.ensures.same in
-    let follows : nodes_follow b.places cur.head c.args.number ≡ true = ap (λ h. nodes_follow b.places h c.args.number) (sym c.head-head.ensures) ∙ sym c.nodes_follow.ensures ∙ c.if-not-nodes_follow.false in
+    let follows : nodes_follow b.places cur.head c.args.number ≡ true =
+    ap (λ h. nodes_follow b.places h c.args.number) (sym c.head-head.ensures) ∙ sym c.nodes_follow.ensures
+    ∙ c.if-not-nodes_follow.false in
     let settled = settled_as b.draft c.settle.new.builder next c.settle.new.current c.in-Ok.ensures.settled in
     subst (TakesLines b c.args.piece.now c.args.number front)
     (λ i. record b {

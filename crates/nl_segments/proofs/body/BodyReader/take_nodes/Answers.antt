@@ -1,5 +1,5 @@
 use Rattle.std.proofs.Common.{arith}
-use Rattle.texts.proofs.FrontLemmas.{front_few}
+use Rattle.text_base.proofs.FrontLemmas.{front_few}
 use Rattle.nl_segments.specs.Held.{body_of}
 use Rattle.nl_segments.proofs.StandingLemmas.{goes_on, still_some}
 use Rattle.nl_segments.proofs.body.BodyReader.take_nodes.Goals as goal
@@ -30,5 +30,6 @@ overflow_add-result-2 c =
 
 pub returns : goal.returns
 returns c =
-    goes_on (body_of c.args.self.now) (body_of c.take_leaf_line-first.new.self) (body_of c.take_node_run-more.new.self) c.args.piece.now c.split_at.result.1.now c.args.number c.take_leaf_line-first.result c.take_node_run-more.result
+    goes_on (body_of c.args.self.now) (body_of c.take_leaf_line-first.new.self) (body_of c.take_node_run-more.new.self)
+    c.args.piece.now c.split_at.result.1.now c.args.number c.take_leaf_line-first.result c.take_node_run-more.result
     c.take_leaf_line-first.ensures c.split_at.ensures.back c.take_node_run-more.ensures

@@ -7,11 +7,29 @@ pub take_next_row-taken-requires : goal.take_next_row-taken-requires
 take_next_row-taken-requires c =
     let q = c.in-Some-pending.pending in
     operand_can (body_of c.args.self.now) c.args.piece.now c.in-Some.first.len c.in-Some.first.number c.args.number c.in-Some-current.current q
-    (record { here = c.in-Some-current.is; awaiting = c.requires.awaited; pending = sym c.pending.ensures.opcode ∙ c.in-Some-pending.is; waits = c.pending.ensures.waits; held = c.requires.held }) c.in-Some.ensures (sym c.is_operand_count.ensures ∙ c.if-not-is_operand_count.false)
+    (record {
+      here = c.in-Some-current.is;
+      awaiting = c.requires.awaited;
+      pending =
+          sym c.pending.ensures.opcode ∙ c.in-Some-pending.is;
+      waits = c.pending.ensures.waits;
+      held =
+          c.requires.held;
+    }) c.in-Some.ensures (sym c.is_operand_count.ensures ∙ c.if-not-is_operand_count.false)
 
 pub returns : goal.returns
 returns c =
     let q = c.in-Some-pending.pending in
-    operand_first (body_of c.args.self.now) c.args.piece.now c.args.number c.in-Some.first.len c.in-Some.first.number c.in-Some-current.current q c.take_next_row-taken.new.builder c.take_next_row-taken.new.current c.take_next_row-taken.new.places
-    (record { here = c.in-Some-current.is; awaiting = c.requires.awaited; pending = sym c.pending.ensures.opcode ∙ c.in-Some-pending.is; waits = c.pending.ensures.waits; held = c.requires.held }) c.in-Some.ensures (sym c.is_operand_count.ensures ∙ c.if-not-is_operand_count.false)
+    operand_first (body_of c.args.self.now) c.args.piece.now c.args.number c.in-Some.first.len c.in-Some.first.number
+    c.in-Some-current.current q c.take_next_row-taken.new.builder c.take_next_row-taken.new.current
+    c.take_next_row-taken.new.places
+    (record {
+      here = c.in-Some-current.is;
+      awaiting = c.requires.awaited;
+      pending =
+          sym c.pending.ensures.opcode ∙ c.in-Some-pending.is;
+      waits = c.pending.ensures.waits;
+      held =
+          c.requires.held;
+    }) c.in-Some.ensures (sym c.is_operand_count.ensures ∙ c.if-not-is_operand_count.false)
     (c.take_next_row-taken.ensures.places c.if-not-taken.false) (c.take_next_row-taken.ensures.settled c.if-not-taken.false)

@@ -1,5 +1,5 @@
 use Rattle.std.proofs.Common.{◌∙◌, sym}
-use Rattle.texts.specs.Words.{texts}
+use Rattle.text_base.specs.Words.{texts}
 use Rattle.nl_segments.specs.Held.{body_of}
 use Rattle.nl_segments.proofs.HeadLaw.{extra_line}
 use Rattle.nl_segments.proofs.body.BodyReader.take_plain.Goals as goal

@@ -1,5 +1,5 @@
 use Rattle.std.proofs.Common.{sym, subst}
-use Rattle.texts.specs.Reading.{Reads}
+use Rattle.text_base.specs.Reading.{Reads}
 use Rattle.nl_segments.specs.Grammar.{nl_rules, SaysFile}
 use Rattle.nl_segments.specs.Reader.{IsFed, value_of}
 use Rattle.nl_segments.proofs.CleanTexts.{has_lines}

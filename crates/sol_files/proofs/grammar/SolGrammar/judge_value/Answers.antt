@@ -1,5 +1,5 @@
 use Rattle.std.proofs.Common.{ap, arith}
-use Rattle.texts.specs.Words.{texts}
+use Rattle.text_base.specs.Words.{texts}
 use Rattle.sol_files.specs.Progress.{Progress, seen}
 use Rattle.sol_files.specs.Tests.{value_tests}
 use Rattle.sol_files.specs.InsideJudging.{marked_value_tests}
@@ -18,12 +18,22 @@ judge_pair-requires c = omega (arith, c.index_limit-limit.ensures, (value_awaite
 
 pub returns-clause-fine : goal.returns-clause-fine
 returns-clause-fine c =
-    judged_ok c.judge_pair.result (marked_value_tests c.index_limit-limit.result c.wants_whole-whole_only.result c.self.inside.marks c.self.inside.value_count (texts c.args.words.now)) (value_tests (seen c.args.self.now) (texts c.args.words.now))
-    (judged (seen c.args.self.now) c.self.inside.marks c.index_limit-limit.result c.wants_whole-whole_only.result c.self.inside.value_count (texts c.args.words.now) (value_awaited _ _ _ _ c.self.view_is c.requires c.self.invariant).marked c.index_limit-limit.ensures c.wants_whole-whole_only.ensures (ap (λ (s : Progress). s.value_count) c.self.view_is))
+    judged_ok c.judge_pair.result (marked_value_tests c.index_limit-limit.result c.wants_whole-whole_only.result
+    c.self.inside.marks c.self.inside.value_count (texts c.args.words.now))
+    (value_tests (seen c.args.self.now) (texts c.args.words.now))
+    (judged (seen c.args.self.now) c.self.inside.marks c.index_limit-limit.result c.wants_whole-whole_only.result
+    c.self.inside.value_count (texts c.args.words.now) (value_awaited _ _ _ _ c.self.view_is c.requires
+    c.self.invariant).marked c.index_limit-limit.ensures c.wants_whole-whole_only.ensures
+    (ap (λ (s : Progress). s.value_count) c.self.view_is))
     c.judge_pair.ensures.fine
 
 pub returns-clause-fault : goal.returns-clause-fault
 returns-clause-fault c =
-    judged_err c.judge_pair.result (marked_value_tests c.index_limit-limit.result c.wants_whole-whole_only.result c.self.inside.marks c.self.inside.value_count (texts c.args.words.now)) (value_tests (seen c.args.self.now) (texts c.args.words.now))
-    (judged (seen c.args.self.now) c.self.inside.marks c.index_limit-limit.result c.wants_whole-whole_only.result c.self.inside.value_count (texts c.args.words.now) (value_awaited _ _ _ _ c.self.view_is c.requires c.self.invariant).marked c.index_limit-limit.ensures c.wants_whole-whole_only.ensures (ap (λ (s : Progress). s.value_count) c.self.view_is))
+    judged_err c.judge_pair.result (marked_value_tests c.index_limit-limit.result c.wants_whole-whole_only.result
+    c.self.inside.marks c.self.inside.value_count (texts c.args.words.now))
+    (value_tests (seen c.args.self.now) (texts c.args.words.now))
+    (judged (seen c.args.self.now) c.self.inside.marks c.index_limit-limit.result c.wants_whole-whole_only.result
+    c.self.inside.value_count (texts c.args.words.now) (value_awaited _ _ _ _ c.self.view_is c.requires
+    c.self.invariant).marked c.index_limit-limit.ensures c.wants_whole-whole_only.ensures
+    (ap (λ (s : Progress). s.value_count) c.self.view_is))
     c.judge_pair.ensures.fault

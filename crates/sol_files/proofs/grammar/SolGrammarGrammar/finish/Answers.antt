@@ -1,5 +1,5 @@
 use Rattle.std.proofs.Common.{◌∙◌, ap, sym}
-use Rattle.texts.specs.Judged.{first_reason}
+use Rattle.text_base.specs.Judged.{first_reason}
 use Rattle.sol_files.specs.Standing.{Standing}
 use Rattle.sol_files.specs.Tests.{end_tests}
 use Rattle.sol_files.proofs.StandingLemmas.{standing-held}

@@ -20,7 +20,15 @@ loop-preserved g c =
 pub put_number-requires : goal.put_number-requires
 put_number-requires g c =
     let small : c.loop.left < 2 ^ 64 = omega (arith, c.loop.auto.left-fits) in
-    omega (arith, c.requires.places, c.requires.room, c.loop.auto.counter-end, ap length c.put_byte-2.ensures, c.loop.invariant.size, length-decimal-le 20 c.loop.left (omega arith) (omega arith) small)
+    omega (
+      arith,
+      c.requires.places,
+      c.requires.room,
+      c.loop.auto.counter-end,
+      ap length c.put_byte-2.ensures,
+      c.loop.invariant.size,
+      length-decimal-le 20 c.loop.left (omega arith) (omega arith) small,
+    )
 
 pub returns : goal.returns
 returns g c =

@@ -1,4 +1,0 @@
-pub mod Conversion
-pub mod CutNumbers
-pub mod NumberLemmas
-pub mod Proved

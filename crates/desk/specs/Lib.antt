@@ -1,5 +1,0 @@
-pub mod Desk
-pub mod Memory
-pub mod InsideEntries
-pub mod InsideMemoryFields
-pub mod Host

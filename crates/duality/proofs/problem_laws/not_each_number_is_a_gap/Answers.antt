@@ -1,5 +1,0 @@
-use Rattle.duality.proofs.GapExample.{not_each}
-use Rattle.duality.proofs.problem_laws.not_each_number_is_a_gap.Goals as goal
-
-pub returns : goal.returns
-returns c = not_each

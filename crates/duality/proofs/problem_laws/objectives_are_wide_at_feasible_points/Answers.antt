@@ -1,5 +1,0 @@
-use Rattle.duality.proofs.Problems.{not_at_objective}
-use Rattle.duality.proofs.problem_laws.objectives_are_wide_at_feasible_points.Goals as goal
-
-pub returns : goal.returns
-returns c = not_at_objective

@@ -1,8 +1,0 @@
-use Rattle.std.proofs.Common.{◌≡◌, None}
-use Rattle.duality.specs.Verdict.{row_fault, first_fault}
-use Rattle.exact_checks.proofs.Points.{point_of}
-use Rattle.exact_checks.specs.Programs.{program_value}
-use Rattle.exact_checks.proofs.point.first_row_fault.Given as goal
-
-abbrev pub invariant-loop-i : goal.invariant-loop-i
-invariant-loop-i l = first_fault (row_fault (program_value l.program) (point_of l.x)) l.i ≡ None

@@ -1,2 +1,0 @@
-pub mod Exportable
-pub mod ReadAs

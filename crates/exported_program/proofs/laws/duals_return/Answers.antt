@@ -1,8 +1,0 @@
-use Rattle.exported_program.proofs.Return.{law_of_return, law_of_return_tied}
-use Rattle.exported_program.proofs.laws.duals_return.Goals as goal
-
-pub returns-clause-plain : goal.returns-clause-plain
-returns-clause-plain c = law_of_return
-
-pub returns-clause-tied : goal.returns-clause-tied
-returns-clause-tied c = law_of_return_tied

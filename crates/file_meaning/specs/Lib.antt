@@ -1,4 +1,0 @@
-pub mod Expressions
-pub mod FoldFaults
-pub mod LinearFile
-pub mod Meaning

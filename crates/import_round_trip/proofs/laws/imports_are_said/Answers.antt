@@ -1,8 +1,0 @@
-use Rattle.import_round_trip.proofs.Writing.{no_other, said}
-use Rattle.import_round_trip.proofs.laws.imports_are_said.Goals as goal
-
-pub returns-clause-said : goal.returns-clause-said
-returns-clause-said c = said
-
-pub returns-clause-only : goal.returns-clause-only
-returns-clause-only c = no_other

@@ -1,5 +1,0 @@
-pub mod Examples
-pub mod DrawLemmas
-pub mod NumberLemmas
-pub mod RowLemmas
-pub mod Drafting

@@ -1,6 +1,0 @@
-use Rattle.std.proofs.Common.{refl}
-use Rattle.line_places.proofs.RunLemmas.{begun}
-use Rattle.line_places.proofs.line_runs.LineRuns.begin_run.Goals as goal
-
-pub returns : goal.returns
-returns c = begun c.args.self.now c.self.inside.earlier c.push.new.self c.self.inside.last _ c.args.line c.self.view_is c.in_ok-push.ensures.ok refl refl

@@ -1,8 +1,0 @@
-use Rattle.std.proofs.Common.{◌≡◌, ◌++◌, drop}
-use Rattle.std.specs.Prelude.{slice_get}
-use Rattle.line_places.specs.InsideLineRuns.{lines_in, run_lines}
-use Rattle.line_places.proofs.line_runs.line_at.Given as goal
-
--- the place is the place `left` of the runs that are left
-abbrev pub invariant-loop-run : goal.invariant-loop-run
-invariant-loop-run l = slice_get (run_lines (drop l.run-index l.earlier) ++ lines_in l.last) l.left ≡ slice_get (run_lines l.earlier ++ lines_in l.last) l.place

@@ -1,3 +1,0 @@
-pub mod InsideEarlierRuns
-pub mod InsideLineRuns
-pub mod Owners

@@ -1,2 +1,0 @@
-pub mod Problem
-pub mod Setting

@@ -1,5 +1,0 @@
-pub mod AddLemmas
-pub mod ColumnLemmas
-pub mod LineLemmas
-pub mod NumberLemmas
-pub mod RowLemmas

@@ -1,5 +1,0 @@
-use Rattle.mps_export.proofs.AddLemmas.{AreRowsLeft}
-use Rattle.mps_export.proofs.rows.add_listed_rows.Given as goal
-
-abbrev pub invariant-loop-i : goal.invariant-loop-i
-invariant-loop-i l = AreRowsLeft l.fn.n l.rows l.initial.builder l.builder l.i

@@ -1,4 +1,0 @@
-use Rattle.mps_export.proofs.written.text_in_pieces.Goals as goal
-
-pub returns : goal.returns
-returns c = c.with_columns.ensures c.args.scaled c.in_ok-first.ensures c.in_ok-last.ensures c.in_ok-heads.ensures c.in_ok-batches.ensures

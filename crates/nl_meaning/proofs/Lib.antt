@@ -1,4 +1,0 @@
-pub mod Example
-pub mod Linear
-pub mod Local
-pub mod PartLemmas

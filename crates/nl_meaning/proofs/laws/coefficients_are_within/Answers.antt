@@ -1,5 +1,0 @@
-use Rattle.nl_meaning.proofs.Local.{no_coefficient_beyond}
-use Rattle.nl_meaning.proofs.laws.coefficients_are_within.Goals as goal
-
-pub returns : goal.returns
-returns c = no_coefficient_beyond

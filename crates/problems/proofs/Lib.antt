@@ -1,0 +1,9 @@
+pub mod Files
+pub mod FileClaims
+pub mod Verdicts
+pub mod NlSettings
+pub mod Given
+pub mod ProofFiles
+pub mod Meaning
+pub mod MpsSettings
+pub mod Claims

@@ -1,0 +1,5 @@
+pub mod Files
+pub mod FileProblem
+pub mod NlSetting
+pub mod Problem
+pub mod MpsSetting

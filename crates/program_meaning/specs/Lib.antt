@@ -1,4 +1,0 @@
-pub mod Linear
-pub mod Names
-pub mod Elements
-pub mod Lines

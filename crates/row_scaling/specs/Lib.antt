@@ -1,0 +1,16 @@
+pub mod Exported
+pub mod Factored
+pub mod Fitting
+pub mod InsideMoves
+pub mod InsideParts
+pub mod Parts
+pub mod Rows
+pub mod Scaled
+pub mod Scaling
+pub mod Reasons
+pub mod InsideColumns
+pub mod InsideFilled
+pub mod InsideFilling
+pub mod InsideHeads
+pub mod InsideSections
+pub mod InsideSides

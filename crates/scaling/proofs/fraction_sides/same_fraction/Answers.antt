@@ -1,5 +1,0 @@
-use Rattle.scaling.proofs.SharedLemmas.{by_order}
-use Rattle.scaling.proofs.fraction_sides.same_fraction.Goals as goal
-
-pub returns : goal.returns
-returns c = by_order _ _ _ _ c.eq.ensures c.order.ensures

@@ -1,8 +1,0 @@
-use Rattle.texts.proofs.ReadingLemmas.{written_lines}
-use Rattle.texts.proofs.laws.written_lines_are_read.Goals as goal
-
-pub returns-clause-lines : goal.returns-clause-lines
-returns-clause-lines c lines all room = (written_lines lines all room).0
-
-pub returns-clause-end : goal.returns-clause-end
-returns-clause-end c lines all room = (written_lines lines all room).1

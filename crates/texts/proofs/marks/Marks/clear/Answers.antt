@@ -1,9 +1,0 @@
-use Rattle.std.proofs.Common.{◌∙◌, ap, sym, replicate, length, ℕ, false, ◌==◌}
-use Rattle.std.proofs.lemmas.List.{length-map}
-use Rattle.texts.proofs.MarkLemmas.{past_marked}
-use Rattle.texts.proofs.marks.Marks.clear.Goals as goal
-
-pub returns : goal.returns
-returns c =
-    past_marked c.self.inside.stamp c.self.inside.stamps.items c.self.invariant.past
-    ∙ ap (λ (n : ℕ). replicate n false) (sym (length-map c.self.inside.stamps.items (λ s. s == c.self.inside.stamp)) ∙ ap (λ bs. length bs) c.self.view_is)

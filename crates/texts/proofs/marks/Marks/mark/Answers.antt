@@ -1,6 +1,0 @@
-use Rattle.std.proofs.Common.{◌∙◌, ap, slice_set, true}
-use Rattle.texts.proofs.MarkLemmas.{marked_set}
-use Rattle.texts.proofs.marks.Marks.mark.Goals as goal
-
-pub returns : goal.returns
-returns c = marked_set c.self.inside.stamp c.self.inside.stamps.items c.args.index ∙ ap (λ bs. slice_set bs c.args.index true) c.self.view_is

@@ -1,8 +1,0 @@
-use Rattle.std.proofs.Common.{◌≡◌, ◌∙◌, length, sym, ap, rules}
-use Rattle.texts.proofs.CutLines.{length-cut_at}
-use Rattle.texts.proofs.text_lines.TextLines.len.Goals as goal
-
-pub returns : goal.returns
-returns c =
-    let len : c.len.result ≡ length c.self.inside.ends.items = search rules in
-    len ∙ sym (length-cut_at 0 c.self.inside.bytes.items c.self.inside.ends.items) ∙ ap length c.self.view_is
