@@ -78,8 +78,7 @@ def control(project: Project, inside: list[File]) -> list[File]:
         f"Architecture: {ARCHITECTURE}",
         f"Maintainer: {project.maintainer()}",
         f"Installed-Size: {size}",
-        f"Depends: libc6 (>= {major}.{minor}), python3 (>= 3.9), python3-numpy, "
-        "coinor-libclp1",
+        f"Depends: libc6 (>= {major}.{minor}), python3 (>= 3.9), python3-numpy, " "coinor-libclp1",
         "Recommends: coinor-cbc, python3-scipy",
         f"Suggests: {SOLVERS}",
         "Section: math",
