@@ -65,7 +65,7 @@ class Linear(Certified):
 
     def test_basis_of_equations(self) -> None:
         """Equations of which none has a column of its own: what rounding leaves goes through a basis of them."""
-        p = IntegerProgram.of(self.work(made("decimal_flow", 300)).program, {}, 18)
+        p = self.work(made("decimal_flow", 300)).program
         found = next(rounding(p).points())
         self.assertEqual(found.way, "rounding is taken up by a basis of 18 equations")
         self.assertTrue(p.is_feasible(found.point))

@@ -261,7 +261,7 @@ class Models(Certified):
         """Where a point is better than the value, the search finds one."""
         for name in ("knap", "cover", "mixed", "tied", "odd_cycle"):
             made, value = CLAIMED[name]
-            sign = self.plans(made, value)[0].model.sign
+            sign = self.plans(made, value)[0].program.sign
             improved = self.plans(made, value + sign)[1].race()
             self.assertLess(improved.value, sign * value + 1)
 

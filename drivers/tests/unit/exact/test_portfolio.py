@@ -1,0 +1,169 @@
+"""The portfolio: forecasts, time for others, what is paused goes on; bounds in few digits."""
+
+from __future__ import annotations
+
+import math
+from fractions import Fraction
+from types import SimpleNamespace
+from typing import Optional
+
+import pytest
+
+from bridge_drivers.exact import portfolio as portfolio_module
+from bridge_drivers.exact.clp import library
+from bridge_drivers.exact.cuts import CutKind
+from bridge_drivers.exact.portfolio import PLAIN, TURN_SECONDS, Portfolio, Strategy
+from bridge_drivers.exact.search import ImprovedIncumbent, no_point
+from bridge_drivers.exact.search_deadline import SearchDeadline
+from bridge_drivers.model.integer_form import IntegerProgram
+from bridge_drivers.system.errors import NodeLimit, SearchEnded
+from integer_programs import COVER, KNAPSACK, KNAPSACKS, PIGEONS, optimum_of
+from judging import Judge
+from programs import Column, Row, program
+
+NEEDS_CLP = pytest.mark.skipif(library() is None, reason="CLP's library is not there")
+
+
+def strategy_of(share: float, spent: float) -> Strategy:
+    """One whose tree is proved to that share."""
+    search = SimpleNamespace(proved_share=lambda: share)
+    return Strategy("", [], search, spent)  # type: ignore[arg-type]
+
+
+class After(SearchDeadline):
+    """A deadline of which ten seconds are spent."""
+
+    def spent(self) -> float:
+        return 10.0
+
+
+def after_ten_seconds() -> Portfolio:
+    portfolio = Portfolio(KNAPSACK, Fraction(-17), no_point, After())
+    portfolio.started = 0.0
+    return portfolio
+
+
+def test_estimates() -> None:
+    """By the share that is proved; before there is one by a guess; times a correction."""
+    assert strategy_of(0.25, 2.0).estimated_seconds() == 6.0
+    strategy = strategy_of(0.0, 2.0)
+    assert strategy.estimated_seconds() == math.inf
+    strategy.first_estimate = 3.0
+    strategy.correction = 4.0
+    assert strategy.estimated_seconds() == 12.0
+
+
+@pytest.mark.parametrize(
+    "share, spent, seconds",
+    [(0.5, 10.0, 2.0), (0.5, 9.0, 0.9), (0.9999, 10.0, 0.0005), (0.0, 10.0, 3.0), (0.0, 8.0, 1.0)],
+)
+def test_time_for_others(share: float, spent: float, seconds: float) -> None:
+    """A tenth of what the first needs in all, and not more than half of what is left of it."""
+    first = strategy_of(share, spent)
+    assert after_ten_seconds().time_for_others(first) == pytest.approx(seconds, abs=1e-3)
+
+
+def test_time_without_a_first_strategy() -> None:
+    assert after_ten_seconds().time_for_others(None) == math.inf
+
+
+def test_a_strategy_that_takes_longer_than_it_seemed(monkeypatch: pytest.MonkeyPatch) -> None:
+    portfolio, strategy = after_ten_seconds(), strategy_of(0.9999, 10.0)
+    monkeypatch.setattr(portfolio, "resume", lambda strategy, seconds: None)
+    portfolio.take_turn(strategy, strategy, 0.0)
+    assert strategy.estimated_seconds() == pytest.approx(2 * TURN_SECONDS)
+
+
+class Scripted:
+    """A search whose turns end as they are told."""
+
+    def __init__(self, *ends: object) -> None:
+        self.ends = list(ends)
+
+    def resume(self, until: float, most_nodes: int) -> object:
+        end = self.ends.pop(0)
+        if isinstance(end, Exception):
+            raise end
+        return end
+
+
+def test_what_is_paused_goes_on() -> None:
+    """And what failed, or has its tree, does not."""
+    portfolio = Portfolio(KNAPSACK, Fraction(-17), no_point, SearchDeadline())
+    found = ImprovedIncumbent([Fraction(1)] * 3, Fraction(-29))
+    paused = Strategy(PLAIN, [], Scripted(NodeLimit(3), found))  # type: ignore[arg-type]
+    assert portfolio.resume(paused, 1.0) is None
+    assert not paused.has_ended and paused.report == "plain: more than 3 nodes"
+    assert portfolio.resume(paused, 1.0) is found
+    failed = Strategy(PLAIN, [], Scripted(SearchEnded("a leaf does not close")))  # type: ignore[arg-type]
+    assert portfolio.resume(failed, 1.0) is None and failed.has_ended
+    assert portfolio.resume(failed, 1.0) is None
+
+
+@NEEDS_CLP
+@pytest.mark.parametrize("p", [KNAPSACK, COVER, KNAPSACKS])
+@pytest.mark.parametrize("shortens", [False, True])
+def test_races(p: IntegerProgram, shortens: bool, monkeypatch: pytest.MonkeyPatch) -> None:
+    """The first tree is told; where a shorter one is wanted, the shortest."""
+    monkeypatch.setattr(portfolio_module, "SHORT_TREE", 1)
+    value = minimised_optimum(p)
+    portfolio = Portfolio(p, value, no_point, SearchDeadline(60.0), shortens=shortens)
+    assert portfolio.race() is None and portfolio.best is not None
+    trees = [strategy.tree for strategy in portfolio.strategies if strategy.tree is not None]
+    assert portfolio.best.size == min(tree.size for tree in trees)
+    assert is_bound(p, value, portfolio.best.lines())
+    assert len(portfolio.reports()) >= 1
+
+
+@NEEDS_CLP
+@pytest.mark.parametrize("p", [COVER, KNAPSACKS])
+@pytest.mark.parametrize("kinds", [{CutKind.MIR}, {CutKind.MIR, CutKind.CLIQUE}])
+def test_trees_below_cuts(p: IntegerProgram, kinds: set[CutKind]) -> None:
+    value = minimised_optimum(p)
+    portfolio = Portfolio(p, value, no_point, SearchDeadline(60.0))
+    cuts = portfolio.cut_loop.run(frozenset(kinds), [], 30.0)
+    strategy = portfolio.begin("cuts", cuts)
+    assert portfolio.resume(strategy, 60.0) is None
+    assert strategy.tree is not None, strategy.report
+    assert strategy.tree.cuts <= len(cuts)
+    assert is_bound(p, value, strategy.tree.lines())
+
+
+@NEEDS_CLP
+def test_cliques_refute_pigeons() -> None:
+    """Each clique is a chain of disjunctions whose violators are refuted by one leaf."""
+    p = PIGEONS.without_costs()
+    portfolio = Portfolio(p, None, no_point, SearchDeadline(60.0))
+    cuts = portfolio.cut_loop.run(frozenset({CutKind.CLIQUE}), [], 30.0)
+    strategy = portfolio.begin("cuts", cuts)
+    portfolio.resume(strategy, 60.0)
+    assert strategy.tree is not None and strategy.tree.nodes <= 2 * 4 * 3 + 1
+    lines = ["certificate 1", "infeasible", *strategy.tree.lines()]
+    assert Judge(p)(lines).line == "infeasible"
+
+
+@pytest.mark.parametrize(
+    "costs, bound, wanted",
+    [
+        ((3, 6), -16.2, Fraction(-15)),  # a multiple of 3
+        ((3, 6), math.inf, Fraction(-9)),
+        ((3, 6), -1e9, Fraction(-90)),  # what the bounds of columns say
+        (("0.5", "0.25"), -3.01, Fraction(-3)),
+    ],
+)
+def test_bounds_in_few_digits(costs: tuple[object, ...], bound: float, wanted: Fraction) -> None:
+    columns = [Column(0, 10, True, cost) for cost in costs]  # type: ignore[arg-type]
+    p = program(columns, [Row(None, 3, {0: 1, 1: 1})], "max")
+    value: Optional[Fraction] = Fraction(-9) if costs[0] == 3 else Fraction(-1)
+    assert Portfolio(p, value, no_point, SearchDeadline()).rounded_bound(bound) == wanted
+
+
+def minimised_optimum(p: IntegerProgram) -> Fraction:
+    best = optimum_of(p)
+    assert best is not None
+    return p.sign * best
+
+
+def is_bound(p: IntegerProgram, value: Fraction, lines: object) -> bool:
+    head = ["certificate 1", f"bound 0 {p.sign * value}"]
+    return Judge(p)([*head, *lines]).is_proved  # type: ignore[misc]
