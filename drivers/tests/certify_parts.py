@@ -3,13 +3,9 @@ equations, points, and the forecasts of plans."""
 
 from __future__ import annotations
 
-import math
 from fractions import Fraction as F
-from types import SimpleNamespace
-from unittest import TestCase
 
 from bridge_drivers.model.integer_form import IntegerProgram
-from bridge_drivers.exact.portfolio import TURN_SECONDS, Portfolio, Strategy
 from bridge_drivers.model.linear_program import LinearProgram
 
 SECTIONS = ("OBJSENSE", "ROWS", "COLUMNS", "RHS", "RANGES", "BOUNDS")
@@ -72,42 +68,3 @@ def built(columns, rows=(), sense: str = "min", costs=()) -> IntegerProgram:
 def model() -> IntegerProgram:
     """max x0 + 2 x1 + 1/2; the row c0 was written times 2, the row c1 has no sides."""
     return integer_form(TEXT, {0: 2}, 3)
-
-
-class Forecasts(TestCase):
-    """Which plan goes on, and what else there is time for."""
-
-    def plan(self, share: float, spent: float) -> Strategy:
-        return Strategy("", [], SimpleNamespace(proved_share=lambda: share), spent)
-
-    def plans(self) -> Portfolio:
-        """After ten seconds; no plan has a tree."""
-        plans = Portfolio(model(), F(1), lambda x: None, SimpleNamespace(spent=lambda: 10.0))
-        plans.started, plans.resume = 0.0, lambda plan, seconds: None
-        return plans
-
-    def test_expected(self) -> None:
-        self.assertEqual(self.plan(0.25, 2.0).estimated_seconds(), 6.0)
-        plan = self.plan(0.0, 2.0)
-        self.assertEqual(plan.estimated_seconds(), math.inf)
-        plan.first_estimate, plan.correction = 3.0, 4.0
-        self.assertEqual(plan.estimated_seconds(), 12.0)
-
-    def test_room(self) -> None:
-        """A share of what the first plan needs in all, less what went to others; not more than half of what is left of
-        it."""
-        for share, spent, room in (
-            (0.5, 10.0, 2.0),
-            (0.5, 9.0, 0.9),
-            (0.9999, 10.0, 0.0005),
-            (0.0, 10.0, 3.0),
-            (0.0, 8.0, 1.0),
-        ):
-            self.assertAlmostEqual(self.plans().time_for_others(self.plan(share, spent)), room, 3)
-        self.assertEqual(self.plans().time_for_others(None), math.inf)
-
-    def test_misses(self) -> None:
-        """A plan that goes on longer than it said counts as twice that."""
-        plan = self.plan(0.9999, 10.0)
-        self.plans().take_turn(plan, plan, 0.0)
-        self.assertAlmostEqual(plan.estimated_seconds(), 2 * TURN_SECONDS)

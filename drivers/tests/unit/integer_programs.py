@@ -28,6 +28,25 @@ def boxed_programs(draw: st.DrawFn) -> IntegerProgram:
     return program(columns, rows, draw(st.sampled_from(["min", "max"])))
 
 
+@st.composite
+def mixed_programs(draw: st.DrawFn) -> IntegerProgram:
+    """Continuous columns with and without bounds beside integer ones."""
+    count = draw(st.integers(2, 4))
+    free = st.sampled_from([(0, None), (None, None), ("-1.5", 3), (0, "2.5")])
+    boxed = st.sampled_from([(-2, 3), ("-1.5", "2.5"), (0, None)])
+    columns = []
+    for j in range(count):
+        ends = draw(free if j < count // 2 else boxed)
+        columns.append(Column(*ends, j >= count // 2, draw(st.sampled_from([1, -2, 3, "0.25"]))))
+    rows = []
+    for _ in range(draw(st.integers(0, 3))):
+        at, size = draw(st.integers(-4, 8)), draw(st.sampled_from([0, 2]))
+        sides = draw(st.sampled_from([(None, at), (at, None), (at, at + size)]))
+        numbers = st.sampled_from([1, 2, -1, 3, -2, "0.5", 7])
+        rows.append(Row(*sides, {j: draw(numbers) for j in range(count)}))
+    return program(columns, rows, draw(st.sampled_from(["min", "max"])))
+
+
 def points_of(p: IntegerProgram) -> Iterator[Point]:
     """All points of a program whose columns are all integer and have bounds that are."""
     ranges: List[range] = []
@@ -78,3 +97,21 @@ PIGEONS = program(
         ),
     ],
 )  # five of them in four holes: there is no point
+LOTS = program(
+    [
+        *(Column() for _ in range(4)),
+        *(Column(cost="0.3") for _ in range(4)),
+        *(Column(0, 1, True, cost) for cost in (5, 6, 7, 8)),
+    ],
+    [
+        Row(4, 4, {0: 1, 4: -1}),
+        Row(7, 7, {1: 1, 4: 1, 5: -1}),
+        Row(3, 3, {2: 1, 5: 1, 6: -1}),
+        Row(6, 6, {3: 1, 6: 1, 7: -1}),
+        *(Row(None, 0, {t: 1, 8 + t: -20}) for t in range(4)),
+    ],
+)  # 143/10: one lot for each period, its costs, and demands
+COINS = program(
+    [Column(0, 10**5, True, 1) for _ in range(4)],
+    [Row(89643481, 89643481, {0: 12223, 1: 12224, 2: 36674, 3: 61119})],
+)  # no sum of these coins is that

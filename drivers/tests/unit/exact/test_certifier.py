@@ -2,20 +2,27 @@
 
 from __future__ import annotations
 
+import os
+import signal
 from fractions import Fraction
-from typing import Sequence
+from typing import NoReturn, Sequence
+from unittest import mock
 
 import pytest
 from hypothesis import given, settings
 
+from bridge_drivers.exact.certifier import certify
 from bridge_drivers.exact.clp import library
 from bridge_drivers.exact.evidence import AnswerByPlace, AnswerClaim, EvidenceStore, first_proved
 from bridge_drivers.exact.evidence import not_proved
-from bridge_drivers.exact.search_deadline import SearchDeadline
+from bridge_drivers.exact.search import BranchAndBound
+from bridge_drivers.exact.search_deadline import SearchDeadline, SearchProgress
 from bridge_drivers.exact.task import SearchOptions
+from bridge_drivers.exact.work_limit import check_work
 from bridge_drivers.model.integer_form import IntegerProgram
-from integer_programs import COVER, EQUATION, KNAPSACK, KNAPSACKS, PIGEONS
-from integer_programs import boxed_programs, optimum_of
+from bridge_drivers.system.signals import interrupts_to
+from integer_programs import COINS, COVER, EQUATION, KNAPSACK, KNAPSACKS, LOTS, PIGEONS
+from integer_programs import boxed_programs, mixed_programs, optimum_of
 from judging import Judge, certified
 from programs import Column, Row, program
 
@@ -84,3 +91,95 @@ def test_the_first_that_is_proved() -> None:
     assert found.line == "feasible 17" and found.point == [1, 1, 0]
     assert first_proved([]).line == "not proved: no certificate was found"
     assert AnswerByPlace([Fraction(1, 2)]).doubles() == [0.5]
+
+
+@given(mixed_programs())
+@settings(max_examples=40)
+def test_mixed_programs(p: IntegerProgram) -> None:
+    """Each has a claim that is accepted, of whatever kind."""
+    found = certified(p, AnswerClaim.INFEASIBLE_OR_UNBOUNDED)
+    assert found.is_proved, found.line
+    assert found.point is None or p.is_feasible(found.point)
+
+
+@pytest.mark.parametrize("off", [-3, 4, 5000])
+@pytest.mark.parametrize("proves", [True, False])
+def test_an_answer_beside_a_point(off: int, proves: bool) -> None:
+    """An objective column that is off by the digits of a solver, or by more: the point stays."""
+    columns = [Column(0, 9, True), Column(0, 9, True), Column(0, 10**7, True, 1)]
+    rows = [Row(0, 0, {0: 123457, 1: 98765, 2: -1}), Row(None, 11, {0: 1, 1: 1})]
+    best = 9 * 123457 + 2 * 98765
+    answer = AnswerByPlace([9.0, 2.0, float(best + off)])
+    p, options = program(columns, rows, "max"), SearchOptions(proves=proves)
+    found = certified(p, AnswerClaim.POINT, answer=answer, options=options)
+    assert found.point == [9, 2, best] and found.claim in ("optimal", "within", "feasible")
+
+
+def test_coins_that_make_no_sum() -> None:
+    """Forms of a reduced lattice refute it in few nodes."""
+    found = certified(COINS)
+    assert found.line == "infeasible"
+    assert found.certificate is not None and len(found.certificate) < 2000
+
+
+def test_lots() -> None:
+    found = certified(LOTS)
+    assert found.line == "optimal 143/10" and found.value == Fraction(143, 10)
+
+
+def test_one_leaf_alone() -> None:
+    """Without `proves` a bound is told where it is wanted."""
+    answer = AnswerByPlace([1, 1, 0])
+    with mock.patch("bridge_drivers.exact.search.MOST_DEPTH", -1):
+        for wants_bound, line in ((False, "feasible 17"), (True, "within 19 17")):
+            options = SearchOptions(proves=False, wants_bound=wants_bound)
+            found = certified(KNAPSACK, AnswerClaim.POINT, answer=answer, options=options)
+            assert found.line == line
+    options = SearchOptions(is_relaxation=True)
+    found = certified(KNAPSACK, AnswerClaim.POINT, answer=answer, options=options)
+    assert found.line == "bound 250/13"
+
+
+def endless(*words: object) -> NoReturn:
+    while True:
+        check_work()
+
+
+@pytest.mark.parametrize(
+    "part, line",
+    [
+        ("parallel.ParallelSearch.resume", "within 19 17"),
+        ("portfolio.Portfolio.prove_bound", "optimal 17"),
+        ("refutations.hermite_refutation", "optimal 17"),
+    ],
+)
+def test_a_step_that_takes_all_time(part: str, line: str) -> None:
+    """It is ended, and what is known then is judged."""
+    answer = AnswerByPlace([Fraction(1), Fraction(1), Fraction(0)])
+    with mock.patch("bridge_drivers.exact." + part, endless):
+        found = certified(KNAPSACK, AnswerClaim.POINT, answer=answer, seconds=0.5)
+    assert found.line == line
+
+
+def test_an_interrupt_from_the_terminal() -> None:
+    """It ends the search and nothing else; what is known is told."""
+    looks = BranchAndBound.check_limits
+
+    def interrupted(search: BranchAndBound) -> None:
+        if search.nodes >= 5:
+            os.kill(os.getpid(), signal.SIGINT)
+        looks(search)
+
+    deadline, told = SearchDeadline(60.0), list[SearchProgress]()
+    before = signal.getsignal(signal.SIGINT)
+    with mock.patch.object(BranchAndBound, "check_limits", interrupted):
+        with interrupts_to(deadline.interrupt):
+            found = certify(
+                EQUATION,
+                Judge(EQUATION),
+                claim=AnswerClaim.INFEASIBLE,
+                deadline=deadline,
+                on_progress=told.append,
+            )
+    assert signal.getsignal(signal.SIGINT) is before and deadline.is_interrupted
+    assert found.line.startswith(("not proved: interrupted", "feasible", "within"))

@@ -12,12 +12,15 @@ import pytest
 from bridge_drivers.exact import portfolio as portfolio_module
 from bridge_drivers.exact.clp import library
 from bridge_drivers.exact.cuts import CutKind
+from bridge_drivers.exact.fathoming import Cutoff
+from bridge_drivers.exact.parallel import ParallelSearch
 from bridge_drivers.exact.portfolio import PLAIN, TURN_SECONDS, Portfolio, Strategy
 from bridge_drivers.exact.search import ImprovedIncumbent, no_point
 from bridge_drivers.exact.search_deadline import SearchDeadline
+from bridge_drivers.exact.tree import Tree
 from bridge_drivers.model.integer_form import IntegerProgram
 from bridge_drivers.system.errors import NodeLimit, SearchEnded
-from integer_programs import COVER, KNAPSACK, KNAPSACKS, PIGEONS, optimum_of
+from integer_programs import COVER, KNAPSACK, KNAPSACKS, LOTS, PIGEONS, optimum_of
 from judging import Judge
 from programs import Column, Row, program
 
@@ -167,3 +170,31 @@ def minimised_optimum(p: IntegerProgram) -> Fraction:
 def is_bound(p: IntegerProgram, value: Fraction, lines: object) -> bool:
     head = ["certificate 1", f"bound 0 {p.sign * value}"]
     return Judge(p)([*head, *lines]).is_proved  # type: ignore[misc]
+
+
+@NEEDS_CLP
+def test_mir_cuts_of_lots() -> None:
+    value = Fraction(143, 10)
+    portfolio = Portfolio(LOTS, value, no_point, SearchDeadline(60.0))
+    strategy = portfolio.begin("cuts", portfolio.cut_loop.run(frozenset({CutKind.MIR}), [], 30.0))
+    assert portfolio.resume(strategy, 60.0) is None and strategy.tree is not None
+    assert "\nlemma " in "\n" + strategy.tree.text
+    assert is_bound(LOTS, value, strategy.tree.lines())
+
+
+@NEEDS_CLP
+def test_a_bound_that_does_not_close_is_lowered(monkeypatch: pytest.MonkeyPatch) -> None:
+    portfolio = Portfolio(LOTS, Fraction(143, 10), no_point, SearchDeadline(60.0))
+    strategy = portfolio.begin(PLAIN)
+    portfolio.resume(strategy, 60.0, 4)
+    finish, tried = ParallelSearch.finish_at_cutoff, list[Fraction]()
+
+    def finishing(search: ParallelSearch, cutoff: Cutoff) -> Optional[Tree]:
+        assert cutoff.value is not None
+        tried.append(cutoff.value)
+        return None if len(tried) < 2 else finish(search, cutoff)
+
+    monkeypatch.setattr(ParallelSearch, "finish_at_cutoff", finishing)
+    found = portfolio.prove_bound()
+    assert found is not None and is_bound(LOTS, found.value, found.tree.lines())
+    assert len(tried) > 1 and sorted(tried, reverse=True) == tried
