@@ -23,7 +23,7 @@ from sources import BUILT, TOP, TRIED, fault_of, said_by
 sys.path.insert(0, os.path.join(TOP, "drivers"))
 import manual  # noqa: E402
 from bridge_drivers import VERSION  # noqa: E402
-from bridge_drivers.completion import Completion, place  # noqa: E402
+from bridge_drivers.commands.completion import completion_path, completion_text  # noqa: E402
 
 PACKAGE = "bridge_drivers"
 DOCUMENTS = (
@@ -43,7 +43,7 @@ MADE = {
     "docs/dev/crates.txt": ("map.py", "--table"),
 }  # texts that scripts of dev/ print
 LINK = re.compile(r"\]\(([^)#]+)(?:#[^)]*)?\)")
-DRIVER = "bridge_drivers.driver:main"  # commands of this kind share a man page
+DRIVER = "bridge_drivers.commands.driver:main"  # commands of this kind share a man page
 OWN_PAGES = set(os.listdir(os.path.join(TOP, "packaging", "man")))
 X86_64 = b"\x3e\x00"  # the machine in an ELF file's head
 
@@ -206,12 +206,11 @@ class Project:
     def completions(self, zsh: str) -> Iterator[File]:
         """Where shells look for them below PREFIX/share; `zsh` is zsh's folder. Those of bash and
         fish are one text under the name of each command."""
-        made = Completion()
-        yield File(place("zsh", "", self.name, zsh), made.text("zsh").encode())
+        yield File(completion_path("zsh", "", self.name, zsh), completion_text("zsh").encode())
         for shell in ("bash", "fish"):
-            text = made.text(shell).encode()
+            text = completion_text(shell).encode()
             for name in self.scripts:
-                yield File(place(shell, "", name), text)
+                yield File(completion_path(shell, "", name), text)
 
     def installed(self, modules: str, program: str, share: str, zsh: str) -> list[File]:
         """What both packages have, beside man pages. The examples are not among the documents,

@@ -4,11 +4,15 @@ from __future__ import annotations
 
 from typing import Iterable
 
-from bridge_drivers import commands
-from bridge_drivers.certify.command import OPTIONS
-from bridge_drivers.commands import STATUS_TEXTS
-from bridge_drivers.completion import DASHED
-from bridge_drivers.options import COMMON, Option, own_options
+from bridge_drivers.commands import forms
+from bridge_drivers.commands.completion import DASHED_OPTIONS
+from bridge_drivers.commands.forms import STATUS_TEXTS, CommandForm
+from bridge_drivers.commands.options import (
+    CERTIFY_OPTIONS,
+    COMMON_OPTIONS,
+    Option,
+    own_options,
+)
 from bridge_drivers.solvers import SOLVERS
 
 
@@ -23,11 +27,11 @@ def item(head: str, text: str) -> str:
     return f".TP\n.B {roff(head)}\n{roff(text[:1].upper() + text[1:])}."
 
 
-def of_commands(rows: Iterable[commands.Command]) -> str:
+def of_commands(rows: Iterable[CommandForm]) -> str:
     parts = []
     for row in rows:
-        parts.append(item(row.call(), f"{row.text}: {row.more}" if row.more else row.text))
-        parts += [f".RS\n{item(name, said)}\n.RE" for name, said in row.options]
+        parts.append(item(row.call(), row.sentence()))
+        parts += [f".RS\n{item(option.words, option.text)}\n.RE" for option in row.options]
     return "\n".join(parts)
 
 
@@ -38,7 +42,7 @@ def of_options(options: Iterable[Option]) -> str:
 def drivers_options() -> list[Option]:
     """The common ones, and those of some drivers, with whose they are."""
     own: dict[str, list[str]] = {}
-    found = {option.name: option for option in COMMON}
+    found = {option.name: option for option in COMMON_OPTIONS}
     for name in SOLVERS:
         for option in own_options(name):
             own.setdefault(option.name, []).append("bridge-" + name)
@@ -54,11 +58,11 @@ def drivers_options() -> list[Option]:
 def parts() -> dict[str, str]:
     """What stands for each mark of a page."""
     return {
-        "COMMANDS": of_commands(commands.COMMANDS),
-        "OWN": of_commands(commands.OWN),
-        "MODEL": roff(commands.MODEL[:1].upper() + commands.MODEL[1:]) + ".",
+        "COMMANDS": of_commands(forms.PROVED_COMMANDS),
+        "OWN": of_commands(forms.FRONT_COMMANDS),
+        "MODEL": roff(forms.MODEL[:1].upper() + forms.MODEL[1:]) + ".",
         "STATUS": "\n".join(item(str(int(status)), text) for status, text in STATUS_TEXTS.items()),
         "OPTIONS": of_options(drivers_options()),
-        "CERTIFY": of_options(OPTIONS),
-        "DASHED": "\n".join(item(word, text) for word, text in DASHED.items()),
+        "CERTIFY": of_options(CERTIFY_OPTIONS),
+        "DASHED": "\n".join(item(word, text) for word, text in DASHED_OPTIONS.items()),
     }

@@ -8,8 +8,8 @@ import shlex
 import time
 from typing import Callable, Iterator, Mapping, NamedTuple, Sequence
 
-from ..progress import Progress
 from ..solvers.run import RunObserver
+from ..system.progress import Progress
 
 LOGGER = logging.getLogger("bridge_drivers")
 SOLVER_LOGGER = LOGGER.getChild("solver")  # the lines of a solver's log, with their ends
@@ -44,10 +44,10 @@ class ProgressEvent(NamedTuple):
 
 
 class ObservedProgress(Progress):
-    """A line of progress whose numbers are told to others too."""
+    """Progress whose numbers are told to others too."""
 
-    def __init__(self, name: str, on_progress: Callable[[ProgressEvent], None] | None) -> None:
-        super().__init__(name)
+    def __init__(self, on_progress: Callable[[ProgressEvent], None] | None) -> None:
+        super().__init__()
         self.on_progress = on_progress
 
     def tell_numbers(self, known: Numbers) -> None:
@@ -68,7 +68,7 @@ class Monitor(RunObserver):
     Attributes:
         name: The command that messages name.
         seconds: What each part of the run has taken.
-        progress: The line of progress.
+        progress: What the run is at.
         read_line: What a line of the solver's log tells, by name.
     """
 
@@ -78,7 +78,7 @@ class Monitor(RunObserver):
         self.name = name
         self.began = time.monotonic()
         self.seconds: dict[str, float] = {}
-        self.progress = ObservedProgress(name, on_progress)
+        self.progress = ObservedProgress(on_progress)
         self.read_line: Callable[[str], Numbers] = lambda line: {}
         self._known: dict[str, float] = {}
 

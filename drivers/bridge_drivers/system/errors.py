@@ -98,6 +98,17 @@ class WrongOption(BridgeError):
     status = ExitStatus.BAD_WORDS
 
 
+class WrongWords(WrongOption):
+    """Words that no command takes; `meant` asks what was probably meant, where something was."""
+
+    def __init__(self, reason: str, meant: str = "") -> None:
+        super().__init__(reason)
+        self.meant = meant
+
+    def describe(self) -> str:
+        return f"{self.reason};{self.meant} -h lists the commands"
+
+
 class FileAction(enum.Enum):
     """What was tried with a file."""
 

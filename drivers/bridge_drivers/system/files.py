@@ -152,10 +152,15 @@ def open_to_append(path: str) -> BinaryIO:
     """
     found = OPEN_FILE.fullmatch(os.path.abspath(path))
     if found is None:
-        return open(path, "ab")
+        return open(path, "ab", opener=_open_without_terminal)
     sys.stdout.flush()
     number = found["number"] or {"out": 1, "err": 2}[found["name"]]
     return os.fdopen(os.dup(int(number)), "wb")
+
+
+def _open_without_terminal(path: str, flags: int) -> int:
+    """A terminal that is written to does not become this process's own."""
+    return os.open(path, flags | getattr(os, "O_NOCTTY", 0), MODE_OF_NEW_FILES)
 
 
 def private_folder(prefix: str) -> str:

@@ -5,6 +5,7 @@ from __future__ import annotations
 import difflib
 import itertools
 import re
+import unicodedata
 from typing import Iterable, Mapping, Sequence
 
 # of C0 all but the tab and the line's end, DEL, C1, and single bytes that stand for C1
@@ -12,6 +13,7 @@ CONTROLS = re.compile("[\x00-\x08\x0b-\x1f\x7f-\x9f\udc80-\udc9f]")
 LINE_CONTROLS = re.compile("[\t\n]")
 MOST_NAMES = 1000  # that a word is compared with: a comparison takes some microseconds
 LONGEST_WORD = 100  # characters; a comparison takes time by the product of two lengths
+WIDE = "WF"  # the widths of letters that take two columns of a terminal
 LEAST_LIKENESS = 0.7  # of 1, as difflib counts it: less is another word
 
 
@@ -72,6 +74,20 @@ def did_you_mean(word: str, known: Iterable[str], other_names: Mapping[str, str]
     if meant.partition("=")[0] not in names:
         meant = nearest(word, names)
     return f" did you mean `{meant}`?" if meant else ""
+
+
+def cut_to_width(text: str, columns: int) -> str:
+    """As much of a line as a terminal shows in so many columns.
+
+    Letters of East Asia are two columns wide, and marks upon a letter have none of their own.
+    """
+    width = 0
+    for place, letter in enumerate(text):
+        if not unicodedata.combining(letter):
+            width += 2 if unicodedata.east_asian_width(letter) in WIDE else 1
+        if width > columns:
+            return text[:place]
+    return text
 
 
 def _escaped(found: re.Match[str]) -> str:

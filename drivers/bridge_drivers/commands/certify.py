@@ -1,0 +1,107 @@
+"""`bridge-certify MODEL [option=value ..]`: a certificate of what is true of a model, and the verdict on it.
+
+It takes the options of its driver.
+"""
+
+from __future__ import annotations
+
+import os
+import sys
+import time
+from pathlib import Path
+from typing import List, Optional, Sequence
+
+from ..pipeline.answered_run import Outcome
+from ..solvers import SOLVERS
+from ..system.codes import ExitStatus
+from ..system.errors import BridgeError, WrongOption
+from .console import Console, Destination, run_command
+from .driver import DriverCommand
+from .options import CERTIFY_OPTIONS, OptionValues
+
+NAME = "bridge-certify"
+STANDARD_OUTPUT = "-"  # where the certificate goes by this word
+NOT_PROVED = "not proved"  # how a last line begins that is no verdict
+USAGE = """usage: {name} MODEL [option=value ..]
+
+  finds what is true of MODEL by a solver and a search, writes a certificate of it, and tells the
+  verdict of `bridge verify`. No .sol is written. {model}
+  -=      list the options                      -v  versions
+  --      what follows is no option             -h  this text; help OPTION: one option
+  Options may also stand in the variable {variable}.
+"""
+EXAMPLE = "\nexample: {name} mix timelim=60 certificate=mix.certificate\n"
+
+
+class CertifyCommand(DriverCommand):
+    """A call whose answer is certified; it writes no .sol."""
+
+    usage_text = USAGE
+    example_text = EXAMPLE
+    further_options = CERTIFY_OPTIONS
+    shows_short_table = False
+
+    def __init__(self, solver: str, console: Optional[Console] = None) -> None:
+        super().__init__(solver, console)
+        self.name = NAME
+        self.monitor.name = NAME
+        self.prints_certificate = False
+
+    def take_options(self) -> None:
+        """Where the certificate goes to standard output, all that is told goes to standard error."""
+        if self.call.is_ampl or self.call.saves:
+            raise WrongOption(f"{NAME} writes no .sol")
+        self.call.echoes = False
+        super().take_options()
+        given = self.options.text("certificate")
+        self.prints_certificate = given == STANDARD_OUTPUT
+        if not self.prints_certificate:
+            self.options.put("certificate", given or self.source.stub + ".certificate")
+            return
+        if self.options.flag("json"):
+            raise WrongOption("json=1 and certificate=- both want standard output")
+        self.console.destination = Destination.ERRORS
+        self.options.put("certificate", self.workspace.new_path())
+
+    def writes_sol(self) -> bool:
+        return False
+
+    def message_of(self, outcome: Outcome) -> List[str]:
+        """Where it is kept is not told of standard output."""
+        stored = outcome.stored.line if outcome.stored and self.prints_certificate else None
+        return [line for line in outcome.lines if line != stored]
+
+    def deliver(self, outcome: Outcome) -> int:
+        """Where nothing is proved, nothing is done."""
+        status = super().deliver(outcome)
+        if self.options.flag("stats") and outcome.figures:
+            seconds = time.process_time()
+            self.console.line(f"{outcome.figures}; {seconds:.2f} s of the search")
+        path = Path(self.options.text("certificate"))
+        if self.prints_certificate and path.exists():
+            self.console.output(path.read_text(encoding="ascii"))
+        is_settled = status in (ExitStatus.DONE, ExitStatus.NOT_SETTLED)
+        if is_settled and outcome.lines[-1].startswith(NOT_PROVED):
+            return ExitStatus.FAILED
+        return status
+
+    def failed(self, error: BridgeError) -> int:
+        status = super().failed(error)
+        path = self.options.text("certificate")
+        if os.path.isfile(path) and not self.prints_certificate:
+            self.console.error(f"{NAME}: {path} stays as it was")
+        return status
+
+
+def run_certify(argv: Sequence[str], console: Console) -> int:
+    """The exit status of a call; the driver is an option like others, but found first."""
+    word = next(word for word in (*argv, "driver=cbc") if word.startswith("driver="))
+    try:
+        solver = str(OptionValues(CERTIFY_OPTIONS).known["driver"].read(word.partition("=")[2]))
+    except WrongOption as error:
+        return CertifyCommand(next(iter(SOLVERS)), console).failed(error)
+    return CertifyCommand(solver, console).main(argv)
+
+
+def main() -> None:
+    run_command(NAME, lambda console: run_certify(sys.argv[1:], console))

@@ -1,0 +1,322 @@
+"""All that a command prints, and how its process starts and ends.
+
+What is told may hold anybody's words: names of files and models, lines of a solver's log. Controls
+of a terminal in them are shown and not obeyed. What the console makes itself is not escaped: the
+verdict's colour, and the progress line that is rewritten in place.
+"""
+
+from __future__ import annotations
+
+import contextlib
+import enum
+import errno
+import gc
+import logging
+import os
+import sys
+import threading
+from typing import Callable, Iterator, NoReturn, Sequence, TextIO
+
+from ..program.verdict import statement_of
+from ..system.codes import ExitStatus
+from ..system.progress import Progress
+from ..system.signals import SIGNALS, Interrupted
+from ..system.text import cut_to_width, printable
+
+PROVED = ("yes ", "proved")  # verdicts of `check` and `prove` that are settled
+LOGGER = logging.getLogger("bridge_drivers")
+SOLVER_LOGGER = LOGGER.getChild("solver")  # the lines of a solver's log, with their ends
+# how many objects a collection of garbage waits for: a run makes millions, of which few go in circles
+COLLECTED = (200_000, 20, 50)
+FIRST_SECONDS = 1.0  # before the progress line is shown on a terminal
+EVERY_SECONDS = 0.5  # between two of its states
+LINE_SECONDS = 5.0  # between two lines of progress where there is no terminal
+CLEAR_LINE = "\r\x1b[K"
+COLUMNS = 80  # of a terminal that does not tell its own
+
+
+class BrokenOutput(BaseException):
+    """Standard output takes no more: a closed pipe, a full disk. No `except Exception` stops it.
+
+    Attributes:
+        is_closed: Whoever read it has gone, which nobody has to be told.
+    """
+
+    def __init__(self, fault: OSError) -> None:
+        super().__init__(fault.strerror or str(fault))
+        self.is_closed = fault.errno == errno.EPIPE
+
+
+class Destination(enum.Enum):
+    """Where the messages of a command go."""
+
+    OUTPUT = enum.auto()
+    ERRORS = enum.auto()  # standard output is wanted for something else
+    NOWHERE = enum.auto()
+
+
+class Colour(enum.Enum):
+    """Of a verdict, by its number on terminals."""
+
+    SETTLED = 32  # green
+    PARTLY_KNOWN = 33  # yellow
+    NOT_PROVED = 31  # red
+
+
+class Console:
+    """What one command prints to.
+
+    Args:
+        output: Standard output; a fault of it is `BrokenOutput`.
+        errors: Standard error; a fault of it is nobody's, and what is told there is lost.
+
+    Attributes:
+        destination: Where messages go.
+    """
+
+    def __init__(self, output: TextIO, errors: TextIO) -> None:
+        self._output = output
+        self._errors = errors
+        self.destination = Destination.OUTPUT
+
+    # messages -------------------------------------------------------------------------------
+
+    def line(self, text: str) -> None:
+        """A line of the message."""
+        self._message(printable(text) + "\n")
+
+    def lines(self, texts: Sequence[str]) -> None:
+        """Lines of the message."""
+        self._message("".join(printable(text) + "\n" for text in texts))
+
+    def log(self, text: str) -> None:
+        """A piece of a log, which has its own ends of lines."""
+        self._message(printable(text))
+
+    def verdict(self, line: str, verdict: str = "") -> None:
+        """A line of the message in the colour of a verdict, where that is wanted.
+
+        Args:
+            verdict: Whose colour it has; its own where none is given.
+        """
+        if self.is_coloured():
+            colour = colour_of(verdict or line).value
+            self._message(f"\x1b[{colour}m{printable(line)}\x1b[0m\n")
+        else:
+            self.line(line)
+
+    def message(self, lines: Sequence[str]) -> None:
+        """A message whose last line is its verdict."""
+        self.lines(lines[:-1])
+        self.verdict(lines[-1])
+
+    def is_coloured(self) -> bool:
+        """Whether messages go to a terminal, and its user has not said NO_COLOR.
+
+        See https://no-color.org.
+        """
+        stream = {Destination.OUTPUT: self._output, Destination.ERRORS: self._errors}.get(
+            self.destination
+        )
+        wants_none = os.environ.get("NO_COLOR") or os.environ.get("TERM") == "dumb"
+        return not wants_none and stream is not None and is_terminal(stream)
+
+    def _message(self, text: str) -> None:
+        if self.destination is Destination.OUTPUT:
+            self._write_output(text)
+        elif self.destination is Destination.ERRORS:
+            self._write_errors(text)
+
+    # what is no message ---------------------------------------------------------------------
+
+    def output(self, text: str) -> None:
+        """What was asked for on standard output, as help, a certificate or JSON."""
+        self._write_output(printable(text))
+
+    def error(self, text: str) -> None:
+        """A line on standard error, or several."""
+        self._write_errors(printable(text) + "\n")
+
+    @contextlib.contextmanager
+    def logging(self, *, with_commands: bool) -> Iterator[None]:
+        """A block in which what the library logs is told: a solver's log, and commands with times."""
+        handler = _LogHandler(self)
+        level = LOGGER.level
+        LOGGER.addHandler(handler)
+        LOGGER.setLevel(logging.DEBUG if with_commands else logging.INFO)
+        try:
+            yield
+        finally:
+            LOGGER.setLevel(level)
+            LOGGER.removeHandler(handler)
+
+    @contextlib.contextmanager
+    def progress(self, name: str, progress: Progress, *, in_place: bool) -> Iterator[None]:
+        """A block whose progress is shown on standard error.
+
+        Args:
+            name: Of the command.
+            progress: What the work in the block is at.
+            in_place: It is one line that is rewritten, where standard error is a terminal, since
+                nothing else is written there in the block.
+        """
+        line = ProgressLine(self._errors, name, progress, in_place=in_place)
+        line.start()
+        try:
+            yield
+        finally:
+            line.stop()
+
+    def _write_output(self, text: str) -> None:
+        try:
+            self._output.write(text)
+            self._output.flush()
+        except OSError as fault:
+            raise BrokenOutput(fault) from None
+
+    def _write_errors(self, text: str) -> None:
+        with contextlib.suppress(OSError, ValueError):
+            self._errors.write(text)
+            self._errors.flush()
+
+
+class ProgressLine:
+    """Shows what goes on, from a thread of its own.
+
+    On a terminal it is one line that is rewritten in place and leaves nothing behind, elsewhere a
+    line each `LINE_SECONDS`.
+    """
+
+    def __init__(self, stream: TextIO, name: str, progress: Progress, *, in_place: bool) -> None:
+        self.stream = stream
+        self.name = name
+        self.progress = progress
+        self.in_place = in_place and is_terminal(stream)
+        self._is_shown = False
+        self._has_ended = threading.Event()
+        self._thread = threading.Thread(target=self._run, daemon=True)
+
+    def start(self) -> None:
+        self._thread.start()
+
+    def stop(self) -> None:
+        """Nothing is shown any more, and nothing of it is left on a terminal."""
+        self._has_ended.set()
+        self._thread.join()
+        if self._is_shown:
+            self._write(CLEAR_LINE)
+
+    def _run(self) -> None:
+        wait = FIRST_SECONDS if self.in_place else LINE_SECONDS
+        while not self._has_ended.wait(wait):
+            if self.progress.stage:
+                self._show(printable(f"{self.name}: {self.progress.words()}"))
+            wait = EVERY_SECONDS if self.in_place else LINE_SECONDS
+
+    def _show(self, line: str) -> None:
+        if self.in_place:  # in the last column a terminal would begin another line
+            self._write(CLEAR_LINE + cut_to_width(line, columns_of(self.stream) - 1))
+            self._is_shown = True
+        else:
+            self._write(line + "\n")
+
+    def _write(self, text: str) -> None:
+        try:
+            self.stream.write(text)
+            self.stream.flush()
+        except (OSError, ValueError):  # it is closed
+            self._has_ended.set()
+
+
+class _LogHandler(logging.Handler):
+    """Tells what the library logs: lines of a solver, which have their own ends, and its own."""
+
+    def __init__(self, console: Console) -> None:
+        super().__init__()
+        self.console = console
+
+    def emit(self, record: logging.LogRecord) -> None:
+        if record.name == SOLVER_LOGGER.name:
+            self.console.log(record.getMessage())
+        elif record.name == LOGGER.name:
+            self.console.log(record.getMessage() + "\n")
+
+
+def colour_of(verdict: str) -> Colour:
+    """Green what is settled, yellow what is known in part, red what is not proved."""
+    statement = statement_of(verdict)
+    if statement is None:
+        return Colour.SETTLED if verdict.startswith(PROVED) else Colour.NOT_PROVED
+    return Colour.SETTLED if statement.claim.is_final else Colour.PARTLY_KNOWN
+
+
+def is_terminal(stream: TextIO) -> bool:
+    try:
+        return stream.isatty()
+    except (OSError, ValueError):
+        return False
+
+
+def columns_of(stream: TextIO) -> int:
+    """The width of a terminal."""
+    try:
+        return os.get_terminal_size(stream.fileno()).columns or COLUMNS
+    except (OSError, ValueError):
+        return COLUMNS
+
+
+def run_command(name: str, command: Callable[[Console], int]) -> NoReturn:
+    """Ends the process with the command's exit status.
+
+    A standard output that takes no more is told in one line, unless its reader has gone, and so is
+    a signal.
+
+    Args:
+        name: Of the command, in these lines.
+    """
+    gc.set_threshold(*COLLECTED)
+    SIGNALS.install()
+    console = _standard_console()
+    try:
+        status = int(command(console))
+        console.output("")
+    except BrokenOutput as fault:
+        if not fault.is_closed:
+            console.error(f"{name}: standard output: {fault}")
+        _lead_output_nowhere()
+        status = ExitStatus.UNWRITTEN
+    except Interrupted as signal:
+        console.error(f"{name}: interrupted")
+        _lead_output_nowhere()
+        status = signal.status()
+    sys.exit(status)
+
+
+def _standard_console() -> Console:
+    """Of the streams of this process. Bytes of paths that are not UTF-8 are written as they are."""
+    _open_closed_streams()
+    for stream in (sys.stdout, sys.stderr):
+        if hasattr(stream, "reconfigure"):
+            is_utf8 = stream.encoding.lower() == "utf-8"
+            stream.reconfigure(errors="surrogateescape" if is_utf8 else "backslashreplace")
+    return Console(sys.stdout, sys.stderr)
+
+
+def _open_closed_streams() -> None:
+    """Standard streams that the caller closed lead nowhere, so that no other file takes their place.
+
+    Nothing can be written to such an output, and what is told on standard error is lost.
+    """
+    for number, stream in enumerate((sys.stdin, sys.stdout, sys.stderr)):
+        if stream is None:
+            nowhere = os.open(os.devnull, os.O_WRONLY if number == 2 else os.O_RDONLY)
+            os.dup2(nowhere, number)  # children have it too
+    sys.stdout = sys.stdout or open(1, "w", encoding="utf-8", closefd=False)
+    sys.stderr = sys.stderr or open(2, "w", encoding="utf-8", closefd=False)
+
+
+def _lead_output_nowhere() -> None:
+    """Nothing is written to standard output any more, not even what waits to be."""
+    nowhere = os.open(os.devnull, os.O_WRONLY)
+    os.dup2(nowhere, 1)
+    os.close(nowhere)

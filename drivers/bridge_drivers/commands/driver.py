@@ -1,0 +1,388 @@
+"""The drivers: `bridge-NAME MODEL [-AMPL] [option=value ..]`."""
+
+from __future__ import annotations
+
+import contextlib
+import os
+import sys
+from dataclasses import replace
+from typing import List, Optional, Sequence
+
+from .. import api
+from ..formats.sol import failure_sol, short_table, value_lines
+from ..formats.source import Source, Workspace, missing_source, read_model
+from ..pipeline.monitor import Monitor
+from ..pipeline.outcome import code_of_error
+from ..pipeline.outputs import (
+    exit_status,
+    named_duals,
+    named_values,
+    remove_older_sol,
+    write_outputs,
+    write_sol,
+)
+from ..pipeline.report import Report, ReportedCall
+from ..pipeline.answered_run import Outcome
+from ..pipeline.solve import SolveRun
+from ..solvers import SOLVERS
+from ..system.codes import Code, ExitStatus
+from ..system.errors import (
+    BridgeError,
+    DriverFault,
+    FileAction,
+    FileFault,
+    RunInterrupted,
+    WrongOption,
+)
+from ..system.signals import Interrupted
+from ..system.version import VERSION
+from .console import Console, Destination, run_command
+from .minizinc import tell_minizinc
+from .options import (
+    COMMON_OPTIONS,
+    NO_MESSAGE,
+    PRINT_DUALS,
+    PRINT_VALUES,
+    WRITE_SOL,
+    Option,
+    OptionValues,
+    own_options,
+)
+from .words import DriverCall, HelpKind, parse_driver_call
+
+MODEL_HELP = """A MODEL is a stub (knap for knap.nl), an .nl
+  file or an MPS file (of which no .sol is made), packed or not (.gz, .bz2, .xz), a pipe, or - for
+  standard input, which is called stdin."""
+USAGE = """usage: {name} MODEL [-AMPL] [option=value ..]
+
+  reads MODEL, runs {title}, and tells the answer. {model}
+  -AMPL   called by a modelling system: stub.sol is always written, the outcome in it
+  -s      without -AMPL: write stub.sol         -e  do not echo options
+  -=      list the options                      -v  versions
+  --      what follows is no option             -h  this text; help OPTION: one option
+  Options may also stand in the variable {variable}.
+"""
+EXAMPLE = "\nexample: {name} knap prove=1 timelim=60\n"
+LOG, LOG_AND_COMMANDS = 1, 2  # values of `outlev`
+SATISFIED = (
+    "optimal 0",
+    "feasible 0",
+)  # verdicts that say, of a model without an objective, that it has a point
+
+
+class DriverCommand:
+    """One call of a driver.
+
+    Tests put others in the place of what starts programs.
+
+    Args:
+        solver: The name of the solver.
+        console: Where it prints; None for the standard streams at the time of the call.
+
+    Attributes:
+        name: Of the command.
+        options: What was said of its options.
+        call: What the words say.
+        source: The model.
+        missing: Why there is no model; None where there is one.
+        outcome: What was found; None where nothing was.
+        error: Why nothing was found; None where something was.
+        has_sol: The .sol of this call stands.
+    """
+
+    solve_run_class = SolveRun
+    usage_text = USAGE
+    example_text = EXAMPLE
+    further_options: Sequence[Option] = ()
+    shows_short_table = True  # values are shown, where they are few, that nobody asked for
+
+    def __init__(self, solver: str, console: Optional[Console] = None) -> None:
+        self.solver = SOLVERS[solver]
+        self.name = "bridge-" + solver
+        self.options = self._new_options()
+        self.call = DriverCall()
+        self.monitor = Monitor(self.name)
+        self.workspace = Workspace()
+        self.source = Source("", "", "")
+        self.missing: Optional[BridgeError] = None
+        self.outcome: Optional[Outcome] = None
+        self.error: Optional[BridgeError] = None
+        self.has_sol = False
+        self._bridge_words: Sequence[str] = ()
+        self._given_console = console
+        self.console = console or Console(sys.stdout, sys.stderr)
+
+    def _new_options(self) -> OptionValues:
+        own = own_options(self.solver.name)
+        return OptionValues((*COMMON_OPTIONS, *own, *self.further_options))
+
+    # the call -------------------------------------------------------------------------------
+
+    def main(self, argv: Sequence[str]) -> int:
+        """The exit status of a call.
+
+        With json=1 what it tells goes into an object on standard output, also where other words are
+        wrong, and what else it prints nowhere, or to standard error.
+        """
+        self.console = self._given_console or Console(sys.stdout, sys.stderr)
+        self.call = parse_driver_call(argv)
+        if self.call.help_kind is not None:
+            self.console.output(self.help_text(self.call.help_kind, self.call.help_topic))
+            return ExitStatus.DONE
+        if self.call.model is None:
+            self.console.error(self.usage().rstrip("\n"))
+            return ExitStatus.BAD_WORDS
+        said = self._said_early()
+        if not said.flag("json"):
+            return self.run()
+        self.console.destination = Destination.NOWHERE
+        if said.number("outlev"):
+            self.console.destination = Destination.ERRORS
+        reported = ReportedCall(self.name)
+        status = self.run()
+        self.console.output(self._report(reported, status).json() + "\n")
+        return status
+
+    def _said_early(self) -> OptionValues:
+        """The options as far as they are right, before anything is done; json=1 counts wherever it stands."""
+        said = self._new_options()
+        try:
+            said.take_environment(self.name)
+            said.take(self.call.options)
+        except WrongOption:
+            said.put("json", int("json=1" in self.call.options))
+        return said
+
+    def run(self) -> int:
+        """The exit status of a call that has a model."""
+        try:
+            with self.workspace:
+                return self._run_in_workspace()
+        except Interrupted as fault:
+            return self.failed(RunInterrupted(fault.number))
+
+    def _run_in_workspace(self) -> int:
+        """The same, before what was made for it is removed."""
+        try:
+            self._read_model()
+            self.take_options()
+            return self.deliver(self._work())
+        except BridgeError as error:
+            return self.failed(error)
+        except Exception as fault:  # a modelling system is told, whatever it was
+            if self.options.number("outlev") >= LOG_AND_COMMANDS:
+                raise
+            if self.has_sol:
+                return ExitStatus.FAILED
+            return self.failed(DriverFault(repr(fault)))
+
+    def _read_model(self) -> None:
+        """Where there is none, `missing` says why, once options and an older .sol are seen to."""
+        word = self.call.model or ""
+        try:
+            self.source = read_model(word, self.workspace)
+        except BridgeError as error:
+            self.missing = error
+        except OSError as fault:
+            self.missing = FileFault(word, str(fault.strerror), FileAction.READ)
+        if self.missing is not None:
+            self.source = missing_source(word)
+
+    def take_options(self) -> None:
+        """Reads the options, and tells them where that is asked for.
+
+        An older .sol goes once the model can be read, before anything else can go wrong: it must
+        not pass for that of this call.
+
+        Raises:
+            WrongOption: Something is wrong with them.
+        """
+        options = self.options
+        if (self.call.is_ampl or self.call.saves) and not self.source.is_mps:
+            remove_older_sol(self.source)
+        options.take_environment(self.name)
+        options.take(self.call.options)
+        options.run_settings(self.solver.name, writes_sol=self.writes_sol())
+        self._check_fit()
+        if options.echo and self.call.echoes and not options.flag("failexit"):
+            self.console.line(f"{self.name} {VERSION}: {' '.join(options.echo)}")
+        if self.writes_sol():
+            remove_older_sol(self.source)
+
+    def _check_fit(self) -> None:
+        """Whether what is asked can be had of such a model."""
+        name, is_mps = self.source.name, self.source.is_mps
+        form = self.options.text("format")
+        if form and not is_mps and self.missing is None:
+            raise WrongOption(f"format={form} is for MPS files, and {name} is none")
+        if is_mps and self.writes_sol():
+            raise WrongOption(
+                "a .sol is the answer to an .nl file: wantsol=2 prints the values of "
+                f"{name}, `nl-bridge import` makes an .nl of it"
+            )
+        if is_mps and self.options.flag("shortest"):
+            raise WrongOption("shortest=1 is for .nl files: an MPS file is read as it stands")
+
+    def writes_sol(self) -> bool:
+        """Whether MODEL.sol is written."""
+        wanted = bool(self.options.number("wantsol") & WRITE_SOL)
+        return self.call.is_ampl or self.call.saves or wanted
+
+    def _work(self) -> Outcome:
+        """The outcome; what goes on is shown meanwhile."""
+        if self.missing is not None:
+            raise self.missing
+        level = self.options.number("outlev")
+        progress = self.monitor.progress
+        with self.console.progress(self.name, progress, in_place=level < LOG):
+            if level < LOG:
+                return self._solve()
+            with self.console.logging(with_commands=level >= LOG_AND_COMMANDS):
+                return self._solve()
+
+    def _solve(self) -> Outcome:
+        wanted = self.options.run_settings(self.solver.name, writes_sol=self.writes_sol())
+        run = self.solve_run_class(self.source, wanted.settings, self.monitor)
+        try:
+            if wanted.writes_input_alone:
+                overwrite, named = self.options.flag("overwrite"), self.options.text("solver")
+                return run.input_outcome(overwrite=overwrite, named=named)
+            return run.outcome()
+        finally:
+            self._bridge_words = run.bridge_words
+
+    # what is told ---------------------------------------------------------------------------
+
+    def deliver(self, outcome: Outcome) -> int:
+        """Writes what is asked for, and tells what was found; the exit status."""
+        self.outcome = outcome
+        settings = self.options.run_settings(self.solver.name, writes_sol=self.writes_sol())
+        write_outputs(outcome, self.source, settings.outputs, settings.settings.objective)
+        self.has_sol = self.writes_sol()
+        self._tell(outcome)
+        return ExitStatus.DONE if self.call.is_ampl else exit_status(outcome)
+
+    def message_of(self, outcome: Outcome) -> List[str]:
+        """The lines that are told."""
+        return outcome.lines
+
+    def _tell(self, outcome: Outcome) -> None:
+        fails_by_status = self.options.flag("failexit")
+        is_silent = bool(self.options.number("wantsol") & NO_MESSAGE)
+        lines = self.message_of(outcome)
+        if (not self.call.is_ampl or fails_by_status) and not is_silent:
+            if outcome.answer is None:  # there is no verdict
+                self.console.lines(lines)
+            else:
+                self.console.message(lines)
+        if fails_by_status:
+            tell_minizinc(f"{self.name}: {self._words_for_minizinc(outcome, lines)}")
+        if not self.call.is_ampl:
+            self.console.lines(self._numbers())
+        if self.options.number("outlev") >= LOG_AND_COMMANDS:
+            self.console.line(self.monitor.summary())
+
+    @staticmethod
+    def _words_for_minizinc(outcome: Outcome, lines: Sequence[str]) -> str:
+        """The verdict, and before it the answer where that is not sure."""
+        verdict = lines[-1]
+        answer = outcome.answer
+        if verdict in SATISFIED and answer and not answer.program.has_objective():
+            verdict = "satisfied"
+        return f"{lines[0]}; {verdict}" if outcome.code == Code.UNSURE else verdict
+
+    def _numbers(self) -> List[str]:
+        """Values and duals, one a line, by their names.
+
+        Few values are shown where nobody said what is wanted, as by hand.
+        """
+        wanted = self.options.number("wantsol")
+        is_by_hand = not (
+            self.call.saves
+            or self.options.flag("failexit")
+            or self.options.flag("json")
+            or self.options.is_given("wantsol")
+        )
+        answer = self.outcome.answer if self.outcome else None
+        lines: List[str] = []
+        if wanted & PRINT_VALUES:
+            lines += value_lines(named_values(answer))
+        elif self.shows_short_table and is_by_hand:
+            lines += short_table(named_values(answer))
+        duals = named_duals(answer) if wanted & PRINT_DUALS else []
+        if duals:
+            lines += ["duals", *value_lines(duals)]
+        return lines
+
+    def failed(self, error: BridgeError) -> int:
+        """Tells why there is no outcome; the exit status.
+
+        With -AMPL a .sol with the code is written, and the exit status is 0.
+        """
+        self.error = error
+        line = f"{self.name}: {error.text}"
+        self.console.error(line)
+        tell_minizinc(line, is_error=True)
+        wants_sol = self.call.is_ampl and not self.options.flag("failexit")
+        if wants_sol and not self.source.is_mps and not isinstance(error, RunInterrupted):
+            with contextlib.suppress(BridgeError, OSError, ValueError, IndexError):
+                objective = self.options.number("objno") - 1
+                code = code_of_error(error)
+                write_sol(self.source, failure_sol(self.source.path, code, objective, [line]))
+                return ExitStatus.DONE
+        return error.status
+
+    def _report(self, reported: ReportedCall, status: int) -> Report:
+        """What is known at the end, for programs."""
+        reported.program = self._bridge_words
+        reported.read_model(self.source)
+        reported.model = self.source.name or None
+        if self.error is not None:
+            told: Report = api.report_of_error(reported, self.error, self.name).report
+            return replace(told, status=status)
+        assert self.outcome is not None
+        wanted = self.options.number("wantsol")
+        return api.report_of_outcome(
+            reported,
+            self.outcome,
+            status,
+            wants_values=bool(wanted & PRINT_VALUES),
+            wants_duals=bool(wanted & PRINT_DUALS),
+        )
+
+    # help -----------------------------------------------------------------------------------
+
+    def usage(self) -> str:
+        """How the command is called."""
+        return self.usage_text.format(
+            name=self.name,
+            title=self.solver.title,
+            model=MODEL_HELP,
+            variable=self.name.replace("-", "_") + "_options",
+        )
+
+    def help_text(self, kind: HelpKind, topic: str = "") -> str:
+        """What is told instead of a run.
+
+        Args:
+            topic: An option that help is wanted of alone.
+        """
+        known = self.options.known
+        if topic in known:
+            return known[topic].line() + "\n"
+        if kind is HelpKind.OPTIONS:
+            return "".join(option.line() + "\n" for option in known.values())
+        if kind is HelpKind.HELP:
+            listing = "".join(option.paragraph() for option in known.values())
+            return f"{self.usage()}\noptions:\n{listing}" + self.example_text.format(name=self.name)
+        place = self.solver.find() or "not found"
+        return f"{self.name} {VERSION} ({self.solver.title} {place})\n"
+
+
+def main(solver: str = "") -> None:
+    """Without a name that of the command: bridge-NAME."""
+    command = os.path.basename(sys.argv[0]).removesuffix(".exe")
+    solver = solver or command.removeprefix("bridge-")
+    run_command(
+        "bridge-" + solver, lambda console: DriverCommand(solver, console).main(sys.argv[1:])
+    )

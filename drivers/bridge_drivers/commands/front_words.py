@@ -1,0 +1,125 @@
+"""The words that nl-bridge is called with."""
+
+from __future__ import annotations
+
+import re
+from dataclasses import dataclass, field
+from typing import Dict, Iterable, List, Sequence
+
+from ..formats.source import is_stream
+from ..system.errors import WrongWords
+from ..system.text import did_you_mean
+from . import forms
+from .options import OTHER_NAMES
+
+HELP_WORDS = ("-h", "-?", "-=", "--help")
+VERSION_WORDS = ("-v", "--version")
+PAGE_OPTIONS = ("--html", "--svg")
+NUMBER_NAMES = ("K", "SEED", "SIZE")  # words of the table that are no files
+NUMBER = re.compile("0|[1-9][0-9]*")
+LARGEST_NUMBER = 4294967295  # that the proved program takes
+
+
+@dataclass
+class FrontCall:
+    """What the words of a call say.
+
+    Attributes:
+        word: The command; "" where there is none.
+        rest: Its files and numbers, in order.
+        wants_help: Help is wanted, and no run.
+        wants_json: One object of JSON is wanted.
+        pages: Where pages are written, by `html` and `svg`.
+        overwrites: What stands where a file is to be written is replaced.
+    """
+
+    word: str = ""
+    rest: Sequence[str] = ()
+    wants_help: bool = False
+    wants_json: bool = False
+    pages: Dict[str, str] = field(default_factory=dict)
+    overwrites: bool = False
+
+
+def wrong_words(reason: str, word: str, known: Iterable[str]) -> WrongWords:
+    """The error of a word that is not known, with what was probably meant."""
+    names = {**OTHER_NAMES, **forms.OTHER_COMMAND_NAMES}
+    return WrongWords(reason, did_you_mean(word, known, names))
+
+
+def parse_front_call(words: Sequence[str]) -> FrontCall:
+    """What the words of a call say. Options may stand anywhere before `--`.
+
+    Raises:
+        WrongWords: An option is unknown, or the command takes it not.
+    """
+    call = FrontCall()
+    plain: List[str] = []
+    said = set()
+    left = list(words)[::-1]
+    while left:
+        word = left.pop()
+        if word == "--":
+            plain += left[::-1]
+            break
+        if word in HELP_WORDS:
+            call.wants_help = True
+        elif word in VERSION_WORDS:
+            plain = plain or ["version"]
+        elif word in (forms.JSON.words, forms.OVERWRITE.words):
+            said.add(word)
+        elif word.partition("=")[0] in PAGE_OPTIONS:
+            _take_page(call, word, left)
+        elif word.startswith("-") and not is_stream(word):
+            raise wrong_words(f"unknown option {word}", word, (*PAGE_OPTIONS, "--help"))
+        else:
+            plain.append(word)
+    call.word = plain[0] if plain else ""
+    call.rest = plain[1:]
+    call.wants_json = forms.JSON.words in said
+    call.overwrites = forms.OVERWRITE.words in said
+    _check_options(call, [*sorted(said), *(f"--{name}" for name in call.pages)])
+    return call
+
+
+def _take_page(call: FrontCall, word: str, left: List[str]) -> None:
+    """`--html FILE` or `--html=FILE`."""
+    name, equals, path = word.partition("=")
+    if not equals:
+        if not left:
+            raise WrongWords(f"{name} takes a FILE")
+        path = left.pop()
+    call.pages[name[2:]] = path
+
+
+def _check_options(call: FrontCall, said: Sequence[str]) -> None:
+    """Whether the command takes the options that were said; with help any will do."""
+    taken = forms.options_of(call.word)
+    unfit = [option for option in said if option not in taken]
+    if unfit and not call.wants_help:
+        raise WrongWords(f"{call.word or forms.NAME} takes no {unfit[0]}")
+
+
+def why_not_callable(words: Sequence[str]) -> str:
+    """Why no command takes these words, by the table; nothing where one does."""
+    rows = forms.forms_of(words[0])
+    takes = f"{words[0]} takes " + (" or ".join(row.rest for row in rows) or "no more")
+    found = [
+        _why_not_these(names, words[1:], takes)
+        for row in rows
+        for names in row.names(len(words) - 1)
+    ]
+    return min(found, key=bool, default=takes)
+
+
+def _why_not_these(names: Sequence[str], words: Sequence[str], takes: str) -> str:
+    """Why the words are not what they are called in the table; nothing where they are."""
+    for name, word in zip(names, words):
+        is_number = NUMBER.fullmatch(word) is not None and int(word) <= LARGEST_NUMBER
+        if name in NUMBER_NAMES and not is_number:
+            return f"{name} is a plain number up to {LARGEST_NUMBER}, not {word}"
+        if name == "COMMAND" and word not in forms.PROVED_WORDS:
+            return takes
+        if "|" in name and word not in name.split("|"):
+            return takes
+    return ""

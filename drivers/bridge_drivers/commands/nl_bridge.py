@@ -1,0 +1,337 @@
+"""nl-bridge: what people type.
+
+Help, version, explain and stats are made here; every other command is the proved program's own,
+whose files may be what any command takes.
+"""
+
+from __future__ import annotations
+
+import contextlib
+import os
+import signal
+import sys
+from typing import Callable, List, Mapping, Sequence
+
+from .. import api
+from ..formats.file_kinds import is_mps_file, is_packed_file, start_of_file
+from ..formats.source import Workspace, is_stream, name_of_model, read_source
+from ..pipeline.report import Report, ReportedCall
+from ..program.bridge import PACKAGE, build_facts, find_program, sha256_of_file
+from ..program.calls import files_of_call, is_utf8
+from ..program.mps_forms import import_mps
+from ..program.reasons import listed_reasons
+from ..program.refusal import read_fault, why_unreadable
+from ..solvers import SOLVERS
+from ..system import processes
+from ..system.codes import ExitStatus
+from ..system.deadline import Deadline
+from ..system.errors import BridgeError, NotStarted, WrongWords
+from ..system.processes import Streams
+from ..system.version import VERSION
+from . import forms
+from .certify import CertifyCommand
+from .completion import completion_text
+from .console import Console, run_command
+from .driver import DriverCommand
+from .forms import NAME
+from .front_words import (
+    NUMBER,
+    NUMBER_NAMES,
+    FrontCall,
+    parse_front_call,
+    why_not_callable,
+    wrong_words,
+)
+from .words import HelpKind
+
+STUB_NAMES = ("NL", "FILE")  # words of the table that may be a stub
+REFUSALS = "refusals"  # a topic of help
+
+
+def run_front(words: Sequence[str], console: Console) -> int:
+    """The exit status of a call."""
+    try:
+        call = parse_front_call(words)
+        if call.wants_help or call.word == "help":
+            return _print_help(call, console)
+        if not call.word:
+            console.error(forms.usage().rstrip("\n"))
+            return ExitStatus.BAD_WORDS
+        if call.word not in forms.COMMAND_WORDS:
+            raise wrong_words(f"unknown command {call.word}", call.word, forms.COMMAND_WORDS)
+        return _dispatch(call, console)
+    except BridgeError as error:
+        console.error(f"{NAME}: {error}")
+        return error.status
+
+
+def _dispatch(call: FrontCall, console: Console) -> int:
+    """The command itself, or the proved program's."""
+    check_callable(call)
+    if call.word == "completion":
+        console.output(completion_text(call.rest[0]))
+        return ExitStatus.DONE
+    is_own = call.word in REPORTS
+    if call.word == "verify":
+        is_own = call.wants_json or _needs_reading(call.rest)
+    elif call.word == "import":
+        is_own = len(call.rest) == 2
+    if is_own:
+        return _print_report(call, console)
+    return _pass_on(find_program(), [call.word, *call.rest], console)
+
+
+def check_callable(call: FrontCall) -> None:
+    """Whether a command takes these words.
+
+    Raises:
+        WrongWords: None does.
+    """
+    reason = why_not_callable([call.word, *call.rest])
+    if reason:
+        is_proved = call.word in forms.PROVED_WORDS
+        raise WrongWords(f"bad words: {reason}" if is_proved else reason)
+
+
+def _needs_reading(rest: Sequence[str]) -> bool:
+    """Whether `verify` is about what the proved program does not read itself: an MPS file, or a binary .nl file."""
+    path = name_of_model(rest[0]) if len(rest) == 2 else ""
+    if is_stream(path):
+        return True
+    if not os.path.isfile(path):
+        return False
+    return is_mps_file(path) or is_packed_file(path) or start_of_file(path)[:1] == b"b"
+
+
+# help ---------------------------------------------------------------------------------------
+
+
+def _print_help(call: FrontCall, console: Console) -> int:
+    """The help of a command, of an option of a driver, or of all."""
+    topic = call.word
+    if call.word == "help":
+        topic = call.rest[0] if call.rest else ""
+    text = _help_on(topic)
+    if not text:
+        known = [*forms.COMMAND_WORDS, REFUSALS, *_any_driver().options.known]
+        raise wrong_words(f"no help on {topic}", topic, known)
+    console.output(text)
+    return ExitStatus.DONE
+
+
+def _help_on(topic: str) -> str:
+    """Nothing where there is none."""
+    if topic in ("", "help"):
+        return forms.usage()
+    if topic == REFUSALS:
+        return listed_reasons()
+    return forms.help_of(topic) or _driver_help_on(topic)
+
+
+def _driver_help_on(topic: str) -> str:
+    """Of a driver, or of an option that one has."""
+    name = topic.removeprefix("bridge-")
+    if topic != name and name in SOLVERS:
+        return DriverCommand(name).help_text(HelpKind.HELP)
+    if topic == "bridge-certify":
+        return _any_driver().help_text(HelpKind.HELP)
+    option = _any_driver().options.known.get(topic)
+    return option.line() + "\n" if option else ""
+
+
+def _any_driver() -> DriverCommand:
+    """bridge-certify, which has the options of all drivers."""
+    return CertifyCommand(next(iter(SOLVERS)))
+
+
+# reports ------------------------------------------------------------------------------------
+
+
+def _print_report(call: FrontCall, console: Console) -> int:
+    """A report, as text or as JSON; a fault stands on standard error too, but what explain is about is its answer."""
+    error = ""
+    try:
+        report = REPORTS[call.word](call)
+    except BridgeError as fault:
+        if fault.report is None:
+            raise
+        report = fault.report
+        error = report.text
+    is_answer = call.word == "explain" and report.status == ExitStatus.REFUSED
+    if error and (call.wants_json or not is_answer):
+        console.error(f"{NAME}: {error}")
+    if call.wants_json:
+        console.output(report.json() + "\n")
+    elif error:
+        if is_answer:
+            more = report.refusal["more"] if report.refusal else []
+            console.lines([error, *(f"  {line}" for line in more)])
+    elif call.word == "verify":
+        for note in report.lines[:-1]:
+            console.error(f"{NAME}: {note}")
+        console.verdict(report.text)
+    elif call.word == "explain" and report.explained is not None:
+        console.verdict(report.lines[0], report.text)
+        console.lines(report.lines[1:])
+    else:
+        console.lines(report.lines)
+    return report.status
+
+
+def _explained(call: FrontCall) -> Report:
+    """What a certificate says, where there are a model and one; else why a call is refused.
+
+    Of a model alone the call is that of `export`.
+    """
+    rest = call.rest
+    if len(rest) > 1 and rest[0] in forms.PROVED_WORDS:
+        with Workspace() as workspace:
+            return api.refusal_report([rest[0], *_plain_files(workspace, rest)], rest)
+    if len(rest) == 1:
+        return api.explain(rest[0])
+    if NUMBER.fullmatch(rest[1]):
+        return api.explain(rest[0], objective=int(rest[1]))
+    return api.explain(
+        rest[0],
+        rest[1],
+        html=call.pages.get("html", ""),
+        svg=call.pages.get("svg", ""),
+        overwrite=call.overwrites,
+    )
+
+
+def _version(call: FrontCall) -> Report:
+    """Program, sum, toolchain and drivers, one a line."""
+    place = find_program()
+    reported = ReportedCall(NAME)
+    reported.program = place
+    is_file = len(place) == 1
+    digest = sha256_of_file(place[0]) if is_file else None
+    facts = build_facts(place[0]) if is_file else {}
+    text = f"{NAME} {VERSION}"
+    lines = [
+        text,
+        f"program    {' '.join(map(os.path.normpath, place))}",
+        f"sha256     {digest or 'cannot be read'}",
+        f"toolchain  {_toolchain_words(facts)}",
+        f"drivers    {VERSION} {PACKAGE}",
+    ]
+    more = {
+        "program": list(place),
+        "toolchain": facts.get("toolchain"),
+        "proved": facts.get("proved") == "yes" if facts else None,
+        "drivers": PACKAGE,
+    }
+    return reported.report(text, lines, more=more)
+
+
+def _toolchain_words(facts: Mapping[str, str]) -> str:
+    """By what the program was built and proved, by the note on it."""
+    if not facts:
+        return "not told: there is no note on this program, so that it may not be proved"
+    toolchain = facts.get("toolchain") or "not told"
+    if facts.get("proved") == "yes":
+        return toolchain
+    return toolchain + " (NOT PROVED: a build for trials)"
+
+
+def _imported(call: FrontCall) -> Report:
+    """An MPS text into a file, with its names beside it."""
+    reported = ReportedCall(NAME)
+    reported.model = call.rest[0]
+    with api.opened_bridge(reported) as (bridge, workspace):
+        path = _plain_file(workspace, "MPS", call.rest[0])
+        bridge.file_names[path] = call.rest[0]
+        text = import_mps(bridge, path, call.rest[1], overwrite=call.overwrites)
+        return reported.report(text, [text])
+
+
+def _verified(call: FrontCall) -> Report:
+    return api.verify(call.rest[0], call.rest[1])
+
+
+def _statistics(call: FrontCall) -> Report:
+    objective = int(call.rest[1]) if len(call.rest) > 1 else 0
+    return api.figures(call.rest[0], objective=objective)
+
+
+REPORTS: Mapping[str, Callable[[FrontCall], Report]] = {
+    "explain": _explained,
+    "version": _version,
+    "import": _imported,
+    "verify": _verified,
+    "stats": _statistics,
+}
+
+
+# the proved program -------------------------------------------------------------------------
+
+
+def _plain_files(workspace: Workspace, words: Sequence[str]) -> List[str]:
+    """The words behind a command of the proved program, files as plain ones."""
+    for form in forms.PROVED_COMMANDS:
+        for names in form.names(len(words) - 1):
+            if form.word == words[0]:
+                return [_plain_file(workspace, *pair) for pair in zip(names, words[1:])]
+    return []
+
+
+def _plain_file(workspace: Workspace, name: str, word: str) -> str:
+    """The path of a plain file with the text of a word, which its table calls so."""
+    if name in NUMBER_NAMES:
+        return word
+    path = name_of_model(word) if name in STUB_NAMES and not os.path.isfile(word) else word
+    if is_stream(path) or is_packed_file(path):
+        path = read_source(path, workspace).path
+    return path if is_utf8(path) else workspace.link_to(path)
+
+
+def _pass_on(place: Sequence[str], words: Sequence[str], console: Console) -> int:
+    """The proved program over these files, its texts as they are; what else there is to say of a fault is added.
+
+    A signal that ended the program ends this one.
+    """
+    with Workspace() as workspace:
+        call = [words[0], *_plain_files(workspace, words)]
+        status = _run_proved_program(place, call, words, console)
+    if status < 0:
+        with contextlib.suppress(OSError):  # of SIGKILL
+            signal.signal(-status, signal.SIG_DFL)
+        os.kill(os.getpid(), -status)
+    if status == ExitStatus.REFUSED:
+        explained = words[1:] if words[0] == "export" and len(words) < 4 else words
+        console.error(f"{NAME}: `{NAME} explain {' '.join(explained)}` says more")
+    return status
+
+
+def _run_proved_program(
+    place: Sequence[str], call: Sequence[str], words: Sequence[str], console: Console
+) -> int:
+    """Its status. A verdict is in colour on a terminal, and a file that cannot be read is told with its cause.
+
+    Args:
+        place: The words that start it.
+        call: The words of the call, with paths that it can read.
+        words: The same as the user knows them.
+    """
+    files = files_of_call(call)
+    has_fault = any(map(read_fault, files))
+    is_coloured = words[0] in forms.VERDICT_WORDS and console.is_coloured()
+    streams = Streams.APART if is_coloured or has_fault else Streams.PASSED_ON
+    try:
+        ended = processes.run([*place, *call], Deadline(), streams=streams)
+    except OSError as fault:
+        raise NotStarted(place[0], str(fault.strerror)) from None
+    line = ended.output.decode("utf-8", "surrogateescape").rstrip("\n")
+    told = ended.errors.decode("utf-8", "surrogateescape").rstrip("\n")
+    if line.strip():
+        console.verdict(line)
+    if ended.status == ExitStatus.UNREAD and has_fault:
+        told = f"{NAME}: {why_unreadable(files, dict(zip(files, files_of_call(words))))}"
+    if told:
+        console.error(told)
+    return ended.status
+
+
+def main() -> None:
+    run_command(NAME, lambda console: run_front(sys.argv[1:], console))

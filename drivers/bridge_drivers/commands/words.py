@@ -1,0 +1,121 @@
+"""The words that a driver is called with."""
+
+from __future__ import annotations
+
+import enum
+import os
+import re
+from dataclasses import dataclass, field
+from typing import List, Optional, Sequence
+
+ASSIGNMENT = re.compile(r"[A-Za-z]\w*=")
+
+
+class HelpKind(enum.Enum):
+    """What is told instead of a run."""
+
+    VERSIONS = "-v"
+    OPTIONS = "-="
+    HELP = "-?"
+
+
+HELP_WORDS = {
+    "-v": HelpKind.VERSIONS,
+    "--version": HelpKind.VERSIONS,
+    "-=": HelpKind.OPTIONS,
+    "-?": HelpKind.HELP,
+    "-h": HelpKind.HELP,
+    "--help": HelpKind.HELP,
+}
+
+
+@dataclass
+class DriverCall:
+    """What the words of a call say.
+
+    Attributes:
+        model: The word that names the model; None where there is none.
+        is_ampl: A modelling system calls: MODEL.sol is written, the outcome in it.
+        saves: MODEL.sol is written for whoever else calls.
+        echoes: The options are told.
+        help_kind: What is told instead of a run; None where the model is solved.
+        help_topic: The option that help is wanted of; "" for all.
+        options: The words that say options.
+    """
+
+    model: Optional[str] = None
+    is_ampl: bool = False
+    saves: bool = False
+    echoes: bool = True
+    help_kind: Optional[HelpKind] = None
+    help_topic: str = ""
+    options: List[str] = field(default_factory=list)
+
+
+def parse_driver_call(argv: Sequence[str]) -> DriverCall:
+    """What the words of a call say, in any order.
+
+    What is `name=value`, or begins with `-`, is an option, the first other word the model, and what
+    follows it options of the form `name value`. After `--` nothing begins with `-`, and the first
+    word is the model.
+    """
+    call = DriverCall()
+    if argv[:1] == ["help"] and not any(map(os.path.exists, ("help", "help.nl"))):
+        call.help_kind = HelpKind.HELP
+        call.help_topic = argv[1] if len(argv) > 1 else ""
+        return call
+    left = list(argv)[::-1]
+    while left:
+        word = left.pop()
+        if word == "--":
+            _take_plain_words(call, left)
+        elif word in HELP_WORDS:
+            call.help_kind = call.help_kind or HELP_WORDS[word]
+        elif not _take_flag(call, word):
+            _take_word(call, word, left)
+    return call
+
+
+def _take_plain_words(call: DriverCall, left: List[str]) -> None:
+    """All that is left, in which nothing begins with `-`."""
+    while left:
+        word = left.pop()
+        if call.model is None:
+            call.model = word
+        else:
+            call.options.append(word)
+
+
+def _take_flag(call: DriverCall, word: str) -> bool:
+    """Whether a word is one of the three that modelling systems say."""
+    if word == "-AMPL":
+        call.is_ampl = True
+    elif word == "-s":
+        call.saves = True
+    elif word == "-e":
+        call.echoes = False
+    else:
+        return False
+    return True
+
+
+def _take_word(call: DriverCall, word: str, left: List[str]) -> None:
+    """An option with the words of its value, or the model."""
+    has_dash = word.startswith("-") and word != "-"
+    has_value_behind = bool(left) and left[-1].startswith("=")
+    if has_dash or ASSIGNMENT.match(word) or has_value_behind:
+        call.options += [word, *_words_of_value(word, left)]
+    elif call.model is None:
+        call.model = word
+    else:
+        call.options.append(word)
+
+
+def _words_of_value(word: str, left: List[str]) -> List[str]:
+    """The words of an option's value, where that is not in the word itself; they are taken from `left`."""
+    _, equals, value = word.partition("=")
+    if value or not left:
+        return []
+    stands_apart = not equals and left[-1] == "="
+    count = 2 if stands_apart else 1
+    return [left.pop() for _ in range(min(count, len(left)))]

@@ -1,0 +1,72 @@
+"""What a run is at, as values: whoever works says it, whoever shows it reads it."""
+
+from __future__ import annotations
+
+import math
+import time
+from typing import Mapping
+
+VALUES = ("incumbent", "bound", "objective")  # of what is known, those that are told as values
+COUNTS = ("nodes", "open", "iterations", "cuts")  # and those that are told as counts
+
+
+class Progress:
+    """The stage that a run is at. It may be read by another thread while it changes.
+
+    Attributes:
+        stage: What is worked at; "" between two stages.
+        limit: Seconds that the stage has; 0 for no limit.
+        detail: What is known of it, in words.
+        began: When the stage began, by the monotonic clock.
+    """
+
+    def __init__(self) -> None:
+        self.stage = ""
+        self.limit = 0.0
+        self.detail = ""
+        self.began = time.monotonic()
+
+    def begin(self, stage: str, limit: float = 0.0) -> None:
+        """A stage begins; "" ends the one that was."""
+        self.stage = stage
+        self.limit = limit
+        self.detail = ""
+        self.began = time.monotonic()
+
+    def tell(self, detail: str) -> None:
+        """What is known of the stage from now on."""
+        self.detail = detail
+
+    def tell_numbers(self, known: Mapping[str, float]) -> None:
+        """What is known of the stage, by the names that `progress_words` knows."""
+        self.tell(progress_words(known))
+
+    def words(self) -> str:
+        """All of it: `cbc, 3 of 60 s, incumbent 17`."""
+        seconds = f"{time.monotonic() - self.began:.0f}"
+        limit = f" of {self.limit:g} s" if self.limit else " s"
+        detail = f", {self.detail}" if self.detail else ""
+        return f"{self.stage}, {seconds}{limit}{detail}"
+
+
+def progress_words(known: Mapping[str, float]) -> str:
+    """The words of what is known of a search, as far as it is finite.
+
+    Args:
+        known: By the names of `VALUES` and `COUNTS`. A bound by cuts that are still being made is
+            no claim yet, and is not told.
+    """
+    told = {name: value for name, value in known.items() if math.isfinite(value)}
+    if "cuts" in told:
+        told.pop("bound", None)
+    parts = [f"{name} {value:.10g}" for name, value in told.items() if name in VALUES]
+    if "incumbent" in told and "bound" in told:
+        parts.append(f"gap {gap_percentage(told['incumbent'], told['bound']):.3g} %")
+    parts += [f"{value:.0f} {name}" for name, value in told.items() if name in COUNTS]
+    return ", ".join(parts)
+
+
+def gap_percentage(incumbent: float, bound: float) -> float:
+    """How far both are apart, in hundredths of the greater one."""
+    apart = abs(incumbent - bound)
+    return 100 * apart / max(abs(incumbent), abs(bound)) if apart else 0.0
