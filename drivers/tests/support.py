@@ -34,7 +34,7 @@ from bridge_drivers.program.bridge import Bridge, find_program  # noqa: E402
 from bridge_drivers.program.calls import Reply  # noqa: E402
 from bridge_drivers.exact import rational_simplex as simplex  # noqa: E402
 from bridge_drivers.exact import clp  # noqa: E402
-from bridge_drivers.driver import Driver  # noqa: E402
+from bridge_drivers.commands.driver import DriverCommand  # noqa: E402
 from bridge_drivers.pipeline.solve import SolveRun  # noqa: E402
 from bridge_drivers.solvers.run import ANSWER_PREFIX, LOG_NAME, Finished, SolverRun  # noqa: E402
 from models import MODELS, MPS, rows_of  # noqa: E402
@@ -269,7 +269,7 @@ class OfflineRun(SolveRun):
         return "/stored/" + self.solver.executable
 
 
-class OfflineDriver(Driver):
+class OfflineDriver(DriverCommand):
     solve_run_class = OfflineRun
 
 

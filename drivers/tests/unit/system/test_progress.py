@@ -1,0 +1,46 @@
+"""What a run is at, in words."""
+
+from __future__ import annotations
+
+import time
+from typing import Dict
+from unittest import mock
+
+import pytest
+from bridge_drivers.system.progress import Progress, gap_percentage, progress_words
+
+
+@pytest.mark.parametrize(
+    "known, words",
+    [
+        (
+            {"incumbent": 45.0, "bound": 50.0, "nodes": 100.0, "open": 12.0},
+            "incumbent 45, bound 50, gap 10 %, 100 nodes, 12 open",
+        ),
+        ({"incumbent": 4.0, "bound": float("-inf")}, "incumbent 4"),
+        ({"objective": 1 / 3, "iterations": 7.0}, "objective 0.3333333333, 7 iterations"),
+        ({"nodes": 3, "bound": 7.0}, "bound 7, 3 nodes"),
+        ({"cuts": 3, "bound": 7.0}, "3 cuts"),  # no claim yet
+        ({}, ""),
+    ],
+)
+def test_what_is_known(known: Dict[str, float], words: str) -> None:
+    assert progress_words(known) == words
+
+
+@pytest.mark.parametrize("incumbent, bound, gap", [(0, 0, 0), (0, 3, 100), (-4, -5, 20)])
+def test_the_gap(incumbent: float, bound: float, gap: float) -> None:
+    assert gap_percentage(incumbent, bound) == gap
+
+
+def test_a_stage() -> None:
+    with mock.patch.object(time, "monotonic", return_value=100.0) as clock:
+        progress = Progress()
+        progress.begin("cbc", 60)
+        progress.tell_numbers({"incumbent": 17})
+        clock.return_value = 103.4
+        assert progress.words() == "cbc, 3 of 60 s, incumbent 17"
+        progress.begin("certificate")
+        assert progress.words() == "certificate, 0 s"
+        progress.tell("exact duals")
+        assert progress.words() == "certificate, 0 s, exact duals"
