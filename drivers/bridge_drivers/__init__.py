@@ -4,7 +4,6 @@ A driver takes model.nl, lets `bridge` write MPS, runs a solver that reads MPS, 
 answer and check it. `solve`, `certify`, `verify` and `explain` are the calls that the commands are made of.
 """
 
-from . import certify as searches  # noqa: F401  read before the call of this name
 from .api import certify, explain, figures, solve, verify
 from .model.array_model import model_of_arrays
 from .pipeline.monitor import ProgressEvent
