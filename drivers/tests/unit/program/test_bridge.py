@@ -5,7 +5,7 @@ from __future__ import annotations
 import json
 import os
 from pathlib import Path
-from typing import Callable
+from typing import Callable, List, Sequence
 
 import pytest
 
@@ -114,7 +114,7 @@ def test_a_note_is_of_exactly_one_program(tmp_path: Path, monkeypatch: pytest.Mo
 
 
 def test_a_call(script: Script) -> None:
-    told = []
+    told: List[Sequence[str]] = []
     program = script("one", 'echo "$@"; echo no >&2; exit 5')
     bridge = Bridge([program], note=told.append)
     assert bridge.call("export", "m.nl") == (5, b"export m.nl\n", "no")
@@ -173,7 +173,8 @@ def test_the_line_of_check(script: Script) -> None:
 @pytest.mark.parametrize("status", [2, 3, 4, 5, 6, 7, 127])
 def test_another_status_is_a_refusal(script: Script, status: int) -> None:
     bridge = Bridge([script("one", f"echo optimal 17; echo told >&2; exit {status}")])
-    for call in (bridge.verify, bridge.check, bridge.return_):
+    calls: Sequence[Callable[[str, str], object]] = (bridge.verify, bridge.check, bridge.return_)
+    for call in calls:
         with pytest.raises(Refusal) as caught:
             call("m.nl", "other")
         assert (caught.value.status, caught.value.told) == (status, "told")

@@ -61,7 +61,7 @@ def test_a_reason_that_is_not_listed() -> None:
 
 def test_what_the_worked_texts_provoke_is_listed() -> None:
     sys.path.append(str(TOP / "acceptance"))
-    import texts
+    import texts  # type: ignore[import]  # of acceptance
 
     told = {case.told.rstrip("\n") for name in WORKED for case in texts.cases(name)}
     refusals = [line for line in told if line.startswith("refused ")]

@@ -316,7 +316,7 @@ def test_percentages(share: F, text: str) -> None:
 def test_what_the_worked_texts_answer_are_verdicts() -> None:
     """Each line that the worked texts of `verify` and `check` want of the program is read."""
     sys.path.append(str(Path(__file__).resolve().parents[4] / "acceptance"))
-    import texts
+    import texts  # type: ignore[import]  # of acceptance
 
     count = 0
     for name in ("verify", "verify_mps", "check", "limits"):
