@@ -29,6 +29,7 @@ from .pipeline.outputs import (
 )
 from .pipeline.report import ExactNumbers, Report, ReportedCall
 from .pages.explanation import ExplainedFile, Explanation, PagePaths
+from .pipeline.answer import Answer
 from .pipeline.answered_run import Outcome
 from .pipeline.row_factors import whole_form
 from .pipeline.solve import SolveRun
@@ -329,14 +330,9 @@ def report_of_outcome(
     wants_duals: bool,
 ) -> Report:
     """The report of a run that has an outcome."""
-    answer = outcome.answer
-    fields: dict[str, ExactNumbers] = {}
-    if answer is not None and wants_values and answer.values is not None:
-        fields["values"] = ExactNumbers(named_values(answer))
-    if answer is not None and wants_duals and answer.duals is not None:
-        fields["duals"] = ExactNumbers(named_duals(answer))
-    if answer is not None and wants_duals and answer.reduced_costs is not None:
-        fields["costs"] = ExactNumbers(named_reduced_costs(answer))
+    fields = {}
+    if outcome.answer is not None:
+        fields = _numbers_of(outcome.answer, wants_values=wants_values, wants_duals=wants_duals)
     call.certificate = outcome.stored.path if outcome.stored else None
     return call.report(
         outcome.lines[-1],
@@ -346,6 +342,20 @@ def report_of_outcome(
         code=int(outcome.code),
         **fields,
     )
+
+
+def _numbers_of(
+    answer: Answer, *, wants_values: bool, wants_duals: bool
+) -> dict[str, ExactNumbers]:
+    """The numbers of an answer that are wanted and there, by the fields of a report."""
+    found: dict[str, ExactNumbers] = {}
+    if wants_values and answer.values is not None:
+        found["values"] = ExactNumbers(named_values(answer))
+    if wants_duals and answer.duals is not None:
+        found["duals"] = ExactNumbers(named_duals(answer))
+    if wants_duals and answer.reduced_costs is not None:
+        found["costs"] = ExactNumbers(named_reduced_costs(answer))
+    return found
 
 
 def report_of_error(call: ReportedCall, error: BridgeError, name: str) -> BridgeError:

@@ -235,15 +235,22 @@ class Answer:
             parts.append(_lines("col %s %s\n", zip(columns, self.values)))
         if self.duals is not None:
             parts.append(_lines("row %s %s\n", zip(rows, self.duals)))
+        parts += self._suffixes()
+        return b"".join(piece for part in parts for piece in part)
+
+    def _suffixes(self) -> Iterator[Iterator[bytes]]:
+        """Reduced costs, and the basis beside them."""
+        columns, rows = self.program.names.columns, self.program.names.rows
         costs = self.reduced_cost_texts
+        if costs is None:
+            return
         if costs:
             known = [pair for pair in zip(columns, costs) if pair[1] != "0"]
-            parts.append(_lines("suffix 4 rc %s %s\n", known or [(columns[0], costs[0])]))
-        basis = self.found.column_basis, self.found.row_basis
-        if basis[0] and basis[1] is not None and costs is not None:
-            parts.append(_lines("suffix 0 sstatus %s %d\n", zip(columns, basis[0])))
-            parts.append(_lines("suffix 1 sstatus %s %d\n", zip(rows, basis[1])))
-        return b"".join(piece for part in parts for piece in part)
+            yield _lines("suffix 4 rc %s %s\n", known or [(columns[0], costs[0])])
+        of_columns, of_rows = self.found.column_basis, self.found.row_basis
+        if of_columns and of_rows is not None:
+            yield _lines("suffix 0 sstatus %s %d\n", zip(columns, of_columns))
+            yield _lines("suffix 1 sstatus %s %d\n", zip(rows, of_rows))
 
 
 def exact_reduced_costs(program: LinearProgram, duals: Sequence[Fraction]) -> list[Fraction]:

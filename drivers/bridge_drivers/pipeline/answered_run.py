@@ -274,16 +274,19 @@ def with_proved_duals(answer: Answer, verdict: Evidence, told: str) -> Answer | 
     None where no others are known. `told` is what `bridge check` says of its own.
     """
     own, duals = answer.found.duals, proved_duals(answer, verdict)
-    shows = ("yes",) if verdict.claim == "optimal" else ("yes", "gap")
-    if answer.code != Code.SOLVED or own is None or not duals:
-        return None
-    if told.startswith(shows) or told.endswith(" is broken"):
+    if answer.code != Code.SOLVED or own is None or shows_its_claim(told, verdict.claim):
         return None
     if all(own[row] == dual for row, dual in duals.items()):
         return None
     assert answer.found.values is not None
     other = answer.moved_to(answer.found.values, duals, answer.code)
     return other if other.duals is not None else None
+
+
+def shows_its_claim(told: str, claim: str) -> bool:
+    """Whether a .sol's own duals show what is proved, or its values are none, by the words of `bridge check`."""
+    shows = ("yes",) if claim == "optimal" else ("yes", "gap")
+    return told.startswith(shows) or told.endswith(" is broken")
 
 
 def proved_gap_words(said: Statement | None) -> str:

@@ -13,21 +13,22 @@ from ..exact import clp
 from ..exact.worker_pools import WorkerPool, open_pool
 from ..exact.certificate import lines_of_answer
 from ..exact.certifier import certify
-from ..exact.evidence import NOT_PROVED, AnswerByPlace, AnswerClaim, Evidence, not_proved
+from ..exact.evidence import NOT_PROVED, AnswerClaim, Evidence, not_proved
 from ..exact.search_deadline import SearchDeadline, SearchProgress
 from ..exact.task import SearchOptions
 from ..model.analysis import TOLERANCE_OF_INTEGERS, worst_residual
-from ..model.linear_program import EPIGRAPH_COLUMN, EPIGRAPH_ROW
+from ..model.linear_program import EPIGRAPH_COLUMN
 from ..system.errors import ProgramFailed, UnsupportedModel
 from ..system.signals import interrupts_to
 from ..program.bridge import Bridge
 from ..program.refusal import Refusal
 from ..program.verdict import Claim, Statement, objective_lattice, sentence, statement_of
 from ..formats.sol import read_sol
-from ..solvers.base import BasisStatus, SolverStatus
+from ..solvers.base import SolverStatus
 from ..solvers.run import SolverRun
 from ..formats.numbers import decimal, decimal_or_fraction
 from .answer import Answer
+from .answer_places import answer_by_place
 from .judge import CertificateJudge
 from .monitor import Monitor
 from .row_factors import whole_form
@@ -240,7 +241,7 @@ class AnswerCertifier:
             return not_proved(fault)
         if not proves:
             judge.deadline.restart()
-        given = self.answer_by_place(answer)
+        given = answer_by_place(answer)
         if given.duals is not None:
             duals = {row: factors.get(row, 1) * dual for row, dual in given.duals.items()}
             given = given._replace(duals=duals)
@@ -299,34 +300,6 @@ class AnswerCertifier:
             values, duals = self._values_of_file(answer), list(answer.duals or ())
         return WrittenNumbers(values, duals if self.run.is_continuous() else [])
 
-    def answer_by_place(self, answer: Answer) -> AnswerByPlace:
-        """The answer for the search: the solver's numbers, those of integer columns as they are written.
-
-        The column and the row that stand for a nonlinear objective's value are left out.
-        """
-        program, found = self.program, answer.found
-        count = len(program.names.columns) - (program.names.columns[-1:] == [EPIGRAPH_COLUMN])
-        rows = [row for row, name in enumerate(program.names.rows) if name != EPIGRAPH_ROW]
-        numbers = {row: int(program.names.rows[row][1:]) for row in rows}
-        values: list[float | Fraction] | None = None
-        if found.values is not None and answer.values is not None:
-            exact_or_double = (float, Fraction)
-            values = [v if type(v) in exact_or_double else float(v) for v in found.values[:count]]
-            if program.integer_count and not self.is_relaxed:
-                marked = zip(answer.values, program.written.is_integer, values)
-                values = [Fraction(text) if is_whole else v for text, is_whole, v in marked]
-        duals = None
-        if found.duals is not None:
-            duals = {number: found.duals[row] for row, number in numbers.items()}
-        basis = None
-        if found.column_basis is not None and found.row_basis is not None:
-            columns = enumerate(found.column_basis[:count])
-            basis = clp.Basis(
-                [column for column, status in columns if status == BasisStatus.BASIC],
-                [numbers[row] for row in rows if found.row_basis[row] != BasisStatus.BASIC],
-            )
-        return AnswerByPlace(values, duals, basis)
-
     def closing_lines(
         self, verdict: Evidence, said: Statement | None, stored: StoredCertificate | None
     ) -> list[str]:
@@ -363,18 +336,12 @@ class AnswerCertifier:
         another thing than an exact optimum.
         """
         if told.endswith(" is broken"):
-            assert answer.values is not None
             told = self.broken_words(answer, verdict, told)
         said = statement_of(verdict.line)
-        rounded = []
-        if answer.rounded_values:
-            rounded.append("values")
-        if answer.rounded_duals:
-            rounded.append("duals")
-        is_optimal = said is not None and said.claim is Claim.OPTIMAL
-        if said is not None and is_optimal and rounded:
+        rounded = rounded_parts(answer)
+        if said is not None and said.claim is Claim.OPTIMAL and rounded:
             if told.split()[-1:] != [decimal_or_fraction(str(said.value))]:
-                told += f"; the exact {' and '.join(rounded)} are rounded to decimals in it"
+                told += f"; the exact {rounded} are rounded to decimals in it"
         is_sol = self.settings.makes_sol and not self.is_mps
         return f"bridge check of the {'.sol' if is_sol else 'values'}: {told}"
 
@@ -438,3 +405,9 @@ def is_point(values: Sequence[str], point: Sequence[Fraction] | None) -> bool:
 def feasible_words(value: Fraction) -> str:
     """That values are a feasible point, with their objective."""
     return f"feasible, objective exactly {decimal_or_fraction(str(value))}"
+
+
+def rounded_parts(answer: Answer) -> str:
+    """What of an answer is only the nearest decimals of fractions, in words; "" where nothing is."""
+    counts = {"values": answer.rounded_values, "duals": answer.rounded_duals}
+    return " and ".join(name for name, count in counts.items() if count)

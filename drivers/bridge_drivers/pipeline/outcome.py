@@ -140,14 +140,20 @@ def _of_proved_point(found: Findings) -> Ruling:
         return Ruling(Code.LIMIT_WITH_POINT, proved)
     if found.kind or found.said != Code.SOLVED:
         return Ruling(Code.UNSURE, proved, "the gap is not proved" if found.is_gap else "")
+    shortfall = _shortfall_of_own_point(found)
+    return Ruling(Code.UNSURE if shortfall else Code.SOLVED, proved, shortfall)
+
+
+def _shortfall_of_own_point(found: Findings) -> str:
+    """Why a solver's `optimal` earns no code 0 whose own point is proved feasible; "" where it does."""
     if found.has_other_objective:
-        return Ruling(Code.UNSURE, proved, "its digits are not those of an exact point")
+        return "its digits are not those of an exact point"
     if found.is_met_in_doubles:
-        return Ruling(Code.SOLVED, proved)
+        return ""
     has_end = found.claim == "within" or not found.is_ray_open
     if not found.is_continuous and has_end:
-        return Ruling(Code.SOLVED, proved)
-    return Ruling(Code.UNSURE, proved, BOUND_AWAY if found.claim == "within" else NO_BOUND)
+        return ""
+    return BOUND_AWAY if found.claim == "within" else NO_BOUND
 
 
 def _of_answer(found: Findings) -> Ruling:
@@ -161,10 +167,16 @@ def _of_answer(found: Findings) -> Ruling:
         return Ruling(Code.UNSURE, answer, "it is better than what is possible")
     if found.said != Code.SOLVED or not found.is_checked:
         return Ruling(found.said, answer)
+    shortfall = _shortfall_of_answer(found)
+    return Ruling(Code.UNSURE if shortfall else Code.SOLVED, answer, shortfall)
+
+
+def _shortfall_of_answer(found: Findings) -> str:
+    """Why a solver's `optimal` earns no code 0 of which no point is proved; "" where it does."""
     if found.is_contradicted or not found.is_continuous:
-        return Ruling(Code.UNSURE, answer, "no exact point has its whole values")
+        return "no exact point has its whole values"
     if found.violation is Violation.LITTLE:
-        return Ruling(Code.UNSURE, answer, "no exact point is near it")
+        return "no exact point is near it"
     if found.is_bound_met or found.is_met_in_doubles:
-        return Ruling(Code.SOLVED, answer)
-    return Ruling(Code.UNSURE, answer, BOUND_AWAY if found.claim == "bound" else NO_BOUND)
+        return ""
+    return BOUND_AWAY if found.claim == "bound" else NO_BOUND

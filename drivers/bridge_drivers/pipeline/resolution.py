@@ -107,30 +107,30 @@ def findings_of(
 ) -> Findings:
     """What decides on the code."""
     said = statement_of(verdict.line) if verdict.is_proved else None
-    is_mixed = bool(answer.program.integer_count)
-    is_same = proved is not None and not proved.kind
     return Findings(
         said=answer.code,
         claim=verdict.claim,
         is_continuous=answer.is_continuous,
         is_gap=answer.found.is_gap,
         kind=proved.kind if proved else "",
-        has_other_objective=is_mixed
-        and is_same
-        and proved is not None
-        and proved.has_other_objective,
+        has_other_objective=_has_other_objective(answer, proved),
         is_bound_met=said is not None and meets_bound(answer, proved, said),
         is_within_gap=said is not None and is_within(said, facts.gap),
         violation=violation_of(answer, facts.residual),
-        beats_bound=said is not None
-        and said.claim is Claim.BOUND
-        and beats_proved_bound(answer, said.bound),
+        beats_bound=said is not None and beats_proved_bound(answer, said),
         is_contradicted=verdict.contradicts_answer,
         is_met_in_doubles=verdict.is_optimal_in_doubles,
         is_ray_open=verdict.may_be_unbounded,
         is_checked=facts.is_checked,
         is_strict=facts.is_strict,
     )
+
+
+def _has_other_objective(answer: Answer, proved: ProvedPoint | None) -> bool:
+    """Whether the point of an integer program is the answer's up to its digits, and has another objective."""
+    if proved is None or proved.kind or not answer.program.integer_count:
+        return False
+    return proved.has_other_objective
 
 
 def violation_of(answer: Answer, residual: Residual) -> Violation:
@@ -211,11 +211,11 @@ def have_other_values(old: ObjectiveTerms, new: ObjectiveTerms) -> bool:
     return abs(old.value - new.value) > RELATIVE_DIFFERENCE * size
 
 
-def beats_proved_bound(answer: Answer, bound: Fraction | None) -> bool:
-    """Whether the answer is better than what was proved to be the best."""
-    if answer.values is None or bound is None:
+def beats_proved_bound(answer: Answer, said: Statement) -> bool:
+    """Whether the answer is better than a bound, beside which no point is proved."""
+    if answer.values is None or said.bound is None or said.claim is not Claim.BOUND:
         return False
-    own, limit = answer.objective_terms, double_or_infinite(bound)
+    own, limit = answer.objective_terms, double_or_infinite(said.bound)
     surplus = own.value - limit if answer.program.maximise else limit - own.value
     return surplus > RELATIVE_DIFFERENCE * max(own.largest, abs(limit))
 
@@ -249,7 +249,13 @@ def _at_proved_point(
     if shortfall == NOT_STRICT:
         return Resolution(code, moved, NOT_STRICT, kind, shortfall)
     keeps_words = code == answer.code or bool(shortfall) or answer.found.is_gap
+    text = _words_of_code(answer, verdict, code)
     if not kind and keeps_words:
-        return Resolution(code, moved, None, kind, shortfall)
-    is_gap = code == Code.SOLVED and verdict.claim == "within" and answer.found.is_gap
-    return Resolution(code, moved, WORDS_OF_GAP if is_gap else WORDS[code], kind, shortfall)
+        text = None
+    return Resolution(code, moved, text, kind, shortfall)
+
+
+def _words_of_code(answer: Answer, verdict: Evidence, code: Code) -> str | None:
+    """What is told in place of the solver's own words."""
+    is_within = code == Code.SOLVED and verdict.claim == "within"
+    return WORDS_OF_GAP if is_within and answer.found.is_gap else WORDS[code]

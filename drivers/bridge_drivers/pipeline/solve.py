@@ -208,9 +208,8 @@ class SolveRun:
         except Damaged as fault:
             raise Damaged(self.source.name, fault.reason) from None
         self.bridge.file_names[path] = self.source.name
-        if self.settings.keep_folder and path != target:
-            if not (os.path.exists(target) and os.path.samefile(path, target)):
-                shutil.copyfile(path, target)  # MiniZinc, for one, removes its file
+        if self.settings.keep_folder:
+            _keep_copy(path, target)
         try:
             program = self._exported(path)
         except Refusal as fault:
@@ -266,3 +265,10 @@ class SolveRun:
                 f"the file has {read_header(path).objectives}, and objno counts from 1"
             )
         raise ModelRefused(line) if fault.status == ExitStatus.REFUSED else ProgramFailed(line)
+
+
+def _keep_copy(path: str, target: str) -> None:
+    """Copies the model's text into a folder that is kept; MiniZinc, for one, removes its file."""
+    is_there = os.path.exists(target) and os.path.samefile(path, target)
+    if path != target and not is_there:
+        shutil.copyfile(path, target)

@@ -154,34 +154,54 @@ class Glpsol(Solver):
 
 
 def read_answer(run: SolverRun, finished: Finished) -> SolverAnswer:
-    """By the file where it says optimal, else by the log."""
+    """By the file where it says optimal, else by the log.
+
+    The status line of the file is `s bas ROWS COLUMNS PRIMAL DUAL OBJECTIVE` of a basic solution, and
+    `s mip ROWS COLUMNS STATUS OBJECTIVE` of a mixed integer program.
+    """
     told = status_in_log(LOG_STATUSES, finished.log)
     lines = read_lines(run.path("answer.txt"))
     if lines is None:
-        if told is not None and not finished.is_killed:
-            return answer_of_status(told, told.words, has_point=False)
-        return answer_without_file(finished, FAULT_PATTERN)
+        return answer_of_log(finished, told)
     head = next((line.split() for line in lines if line.startswith("s ")), None)
     if head is None:
         raise UnclearAnswer("no status line")
     is_mip = head[1] == "mip"
-    letters = head[4] if is_mip else head[4] + head[5]
+    answer = answer_of_letters(head[4] if is_mip else head[4] + head[5], told)
+    if not answer.status.has_point():
+        return answer
+    answer.objective = float(head[-1])
+    if answer.status is SolverStatus.OPTIMAL and not is_mip:
+        read_basic_solution(run.program, lines, answer)
+    else:
+        read_point(run.program, lines, answer, place=-1 if is_mip else 3)
+    return answer
+
+
+def answer_of_log(finished: Finished, told: ToldStatus | None) -> SolverAnswer:
+    """The answer where no file was written: what the log tells, but of a run that was killed."""
+    if told is not None and not finished.is_killed:
+        return answer_of_status(told, told.words, has_point=False)
+    return answer_without_file(finished, FAULT_PATTERN)
+
+
+def answer_of_letters(letters: str, told: ToldStatus | None) -> SolverAnswer:
+    """The status of the letters in a file, or, where these do not say optimal, what the log told."""
     of_file = status_of(FILE_STATUSES, letters)
     points = (SolverStatus.OPTIMAL, SolverStatus.FEASIBLE, SolverStatus.LIMIT)
     has_point = of_file is None or of_file.status in points
     if of_file is None or of_file.status is not SolverStatus.OPTIMAL:
         of_file = told or of_file
     words = of_file.words if of_file else letters
-    answer = answer_of_status(of_file, words, has_point=has_point)
-    if answer.status.has_point():
-        answer.objective = float(head[-1])
-        if answer.status is SolverStatus.OPTIMAL and not is_mip:
-            read_basic_solution(run.program, lines, answer)
-        else:
-            columns = _records(lines, "j ", len(run.program.names.columns))
-            place = -1 if is_mip else 3
-            answer.values = [float(words[place]) for words in columns]
-    return answer
+    return answer_of_status(of_file, words, has_point=has_point)
+
+
+def read_point(
+    program: LinearProgram, lines: Sequence[str], answer: SolverAnswer, *, place: int
+) -> None:
+    """The values of columns, the words at one place of the lines `j COLUMN ..`, into an answer."""
+    columns = _records(lines, "j ", len(program.names.columns))
+    answer.values = [float(words[place]) for words in columns]
 
 
 def read_basic_solution(program: LinearProgram, lines: Sequence[str], answer: SolverAnswer) -> None:

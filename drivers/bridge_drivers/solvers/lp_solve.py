@@ -52,6 +52,13 @@ GAP_WORDS = frozenset(
 )  # with which it stops at a gap, and does not say so
 
 
+class ReadHead(NamedTuple):
+    """What stands before the values: the objective, and the first other line, "" where there is none."""
+
+    objective: float
+    odd_line: str
+
+
 class ReadValues(NamedTuple):
     """Numbers by name of column; rates of change by name of row or column."""
 
@@ -111,20 +118,24 @@ def answer_of_head(run: SolverRun, told: ToldStatus, head: str, *, has_point: bo
     What lp_solve calls suboptimal is an answer at a limit where there is one. A line before the values
     that is none of its statuses speaks against `optimal`, unless the user's own words may have made it.
     """
-    lines = [line.strip() for line in head.splitlines() if line.strip()]
-    objectives = [line for line in lines if line.startswith(OBJECTIVE)]
     if told.words == SUBOPTIMAL and run.settings.time_limit:
         told = told._replace(status=SolverStatus.LIMIT, text=TIME_LIMIT)
-    odd = []
-    if told is OPTIMAL and not run.settings.arguments:
-        odd = [line for line in lines if line not in objectives]
-    if odd:
-        answer = answer_of_status(None, odd[0], has_point=has_point)
+    found = read_head(head)
+    if found.odd_line and told is OPTIMAL and not run.settings.arguments:
+        answer = answer_of_status(None, found.odd_line, has_point=has_point)
     else:
         answer = answer_of_status(told, told.words, has_point=has_point)
     if answer.status.has_point():
-        answer.objective = float(objectives[0].split()[-1]) if objectives else 0.0
+        answer.objective = found.objective
     return answer
+
+
+def read_head(head: str) -> ReadHead:
+    """The objective, and the first line that is not its."""
+    lines = [line.strip() for line in head.splitlines() if line.strip()]
+    objectives = [float(line.split()[-1]) for line in lines if line.startswith(OBJECTIVE)]
+    others = [line for line in lines if not line.startswith(OBJECTIVE)]
+    return ReadHead(next(iter(objectives), 0.0), next(iter(others), ""))
 
 
 def read_answer(
@@ -141,16 +152,19 @@ def read_answer(
         return SolverAnswer(SolverStatus.UNBOUNDED, "unbounded")
     answer.values = values
     answer.notes.append("lp_solve prints six digits")
-    if answer.status is not SolverStatus.OPTIMAL:
-        return answer
-    if run.is_continuous():
-        duals = [read.rates[name] for name in program.names.rows if name in read.rates]
-        if len(duals) == len(program.names.rows):
-            answer.duals = duals
-            answer.reduced_costs = [read.rates[name] for name in program.names.columns]
-    elif stops_at_gap:
+    if answer.status is SolverStatus.OPTIMAL and run.is_continuous():
+        take_rates(program, read, answer)
+    elif answer.status is SolverStatus.OPTIMAL and stops_at_gap:
         within_gap(answer)
     return answer
+
+
+def take_rates(program: LinearProgram, read: ReadValues, answer: SolverAnswer) -> None:
+    """Duals and reduced costs into an answer, where each row has a dual."""
+    rows = program.names.rows
+    if all(name in read.rates for name in rows):
+        answer.duals = [read.rates[name] for name in rows]
+        answer.reduced_costs = [read.rates[name] for name in program.names.columns]
 
 
 def is_at_infinity(program: LinearProgram, values: Sequence[float]) -> bool:

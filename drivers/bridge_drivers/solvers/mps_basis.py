@@ -8,6 +8,13 @@ from ..model.linear_program import LinearProgram
 from .base import BasisStatus, read_lines
 
 
+ROW_SIDES = {
+    "XU": BasisStatus.AT_UPPER,
+    "XL": BasisStatus.AT_LOWER,
+}  # of a row, beside a basic column
+COLUMN_SIDES = {"BS": BasisStatus.BASIC, "UL": BasisStatus.AT_UPPER}
+
+
 class ReadBasis(NamedTuple):
     """Where columns and rows stand, each in the order of the program."""
 
@@ -27,16 +34,15 @@ def read_mps_basis(program: LinearProgram, path: str) -> ReadBasis | None:
         return None
     kinds = dict(zip(program.names.rows, program.written.kinds))
     moved: dict[str, BasisStatus] = {}
-    for words in (line.split() for line in lines if line.startswith(" ")):
-        if words and words[0] in ("XU", "XL"):
-            side = BasisStatus.AT_UPPER if words[0] == "XU" else BasisStatus.AT_LOWER
-            by_kind = {"E": BasisStatus.EQUAL, "L": BasisStatus.AT_UPPER}
+    by_kind = {"E": BasisStatus.EQUAL, "L": BasisStatus.AT_UPPER}
+    records = [line.split() for line in lines if line.startswith(" ") and not line.isspace()]
+    for words in records:
+        if words[0] in ROW_SIDES:
+            side = ROW_SIDES[words[0]]
             moved[words[1]] = BasisStatus.BASIC
             moved[words[2]] = by_kind.get(kinds.get(words[2], ""), side)
-        elif words and words[0] == "BS":
-            moved[words[1]] = BasisStatus.BASIC
-        elif words and words[0] == "UL":
-            moved[words[1]] = BasisStatus.AT_UPPER
+        elif words[0] in COLUMN_SIDES:
+            moved[words[1]] = COLUMN_SIDES[words[0]]
     return ReadBasis(
         [moved.get(name, BasisStatus.AT_LOWER) for name in program.names.columns],
         [moved.get(name, BasisStatus.BASIC) for name in program.names.rows],
