@@ -8,7 +8,6 @@ from __future__ import annotations
 
 import contextlib
 import itertools
-import math
 from typing import Callable, Dict, Iterator, Mapping, Optional
 
 from .short_duals import box_bound, rounded_duals
@@ -67,10 +66,10 @@ def certify(
     return Certifier(task).certify(claim)
 
 
-def limit_all_work(seconds: float) -> None:
-    """Exact work, and solves of CLP, end within these seconds."""
-    limit_work(Deadline(seconds))
-    Clp.restrict(Deadline(seconds))
+def limit_all_work(deadline: Deadline) -> None:
+    """Exact work, and solves of CLP, end with it."""
+    limit_work(deadline)
+    Clp.restrict(deadline)
 
 
 class Certifier:
@@ -86,7 +85,7 @@ class Certifier:
     def certify(self, claim: AnswerClaim) -> Evidence:
         """Tries what fits the claim; where the time is over, what is known by then."""
         try:
-            limit_all_work(self.task.deadline.left_to_find())
+            limit_all_work(Deadline(self.task.deadline.left_to_find()))
             return self._tried(claim)
         except (TimeOver, DeadlineExceeded):
             found = self._with_bound_in_doubles(first_proved(self._known()))
@@ -94,7 +93,7 @@ class Certifier:
         except (ClpNotInstalled, SearchEnded) as ended:
             return not_proved(ended)
         finally:
-            limit_all_work(math.inf)
+            limit_all_work(Deadline())
 
     def certify_point(self) -> Evidence:
         """That a point is optimal, else that it is feasible, with a bound where there is one."""
@@ -176,12 +175,12 @@ class Certifier:
 
     def _known(self) -> Iterator[Evidence]:
         """What there is where the time is over: a tree, the best point, the closest bound."""
-        limit_all_work(math.inf)
+        limit_all_work(Deadline())
         yield from self.integer.claim_known_tree()
-        limit_all_work(self.task.deadline.left_of_all() - KEPT_SECONDS)
+        limit_all_work(Deadline(self.task.deadline.left_of_all() - KEPT_SECONDS))
         with contextlib.suppress(TimeOver, SearchEnded):
             self._add_bound_at_last()
-        limit_all_work(math.inf)
+        limit_all_work(Deadline())
         yield from self.store.claims()
         reason = self.task.deadline.why("time")
         is_contradicted = self.integer.is_answer_contradicted

@@ -5,7 +5,7 @@ simplex method in fractions; else a point and a bound in short numbers.
 from __future__ import annotations
 
 from fractions import Fraction
-from typing import Iterable, Iterator, List, NamedTuple, Optional
+from typing import Iterable, Iterator, List, Mapping, NamedTuple, Optional
 
 from .short_duals import GOOD_GAP, NO_MULTIPLIERS, ShortDuals, box_bound, short_duals
 from .short_points import DecimalPoints, ShortPoint
@@ -15,7 +15,7 @@ from . import points
 from .basis import IterativeRefinement, NearBasis, can_lift, exact_optimum
 from .clp import Clp, LpStatus
 from .dual_bound import MultiplierKind, fits_certificate
-from .evidence import NO_POINT, AnswerByPlace, BoundEvidence, Evidence, too_wide_note
+from .evidence import NO_POINT, AnswerByPlace, BoundEvidence, Evidence, Number, too_wide_note
 from .leaf_proofs import LeafProof, LeafProver, basis_duals
 from .rational_simplex import is_small
 from .refutations import Refuter
@@ -60,6 +60,11 @@ class LinearCertifier:
             yield from self._by_points(answer, clp)
         if relaxed.status is LpStatus.UNBOUNDED:
             yield self.refuter.certify_ray()
+        yield from self._by_exact_optimum(answer, clp)
+        yield from self._by_short_numbers(clp)
+
+    def _by_exact_optimum(self, answer: AnswerByPlace, clp: Optional[Clp]) -> Iterator[Evidence]:
+        """`optimal` from bases, or of a small program by the simplex method in fractions."""
         if clp is not None:
             yield from self.by_bases(self.bases(clp))
         if not self.store.note and is_small(self.program):
@@ -67,7 +72,6 @@ class LinearCertifier:
             if clp is not None:
                 start = AnswerByPlace(clp.values(), None, clp.basis())
             yield from self.refuter.by_rational_simplex(start)
-        yield from self._by_short_numbers(clp)
 
     def by_bases(self, bases: Iterable[NearBasis]) -> Iterator[Evidence]:
         """`optimal` by the first basis that is exactly optimal, where its numbers are narrow."""
@@ -152,30 +156,42 @@ class LinearCertifier:
         self, value: Fraction, answer: AnswerByPlace, clp: Optional[Clp]
     ) -> Optional[LeafProof]:
         """A leaf whose bound is the value: by CLP's duals, those of its basis, or the answer's."""
-        program, dual = self.program, MultiplierKind.DUAL
-        prover, box = LeafProver(program, value), Box(program.lower, program.upper)
-        if not any(program.costs):
-            return prover.prove_from_doubles({}, dual, box)
+        prover = LeafProver(self.program, value)
+        if not any(self.program.costs):
+            return prover.prove_from_doubles({}, MultiplierKind.DUAL, self._box())
         self.task.deadline.tell_step("exact duals")
-        if clp is not None:
-            proof = prover.prove_from_doubles(dict(enumerate(clp.duals())), dual, box)
-            if proof is None:
-                exact = basis_duals(program, *clp.basis())
-                proof = prover.prove_from_fractions(exact, dual, box)
-            if proof is not None:
-                return proof
-        if answer.duals is None:
-            return None
-        duals = {i: program.sign * y for i, y in answer.duals.items()}
+        proof = None if clp is None else self._leaf_by_clp(prover, clp)
+        if proof is None and answer.duals is not None:
+            proof = self._leaf_by_answer(prover, answer.duals)
+        return proof
+
+    def _leaf_by_clp(self, prover: LeafProver, clp: Clp) -> Optional[LeafProof]:
+        """By CLP's duals, or the exact ones of its basis."""
+        dual, box = MultiplierKind.DUAL, self._box()
+        proof = prover.prove_from_doubles(dict(enumerate(clp.duals())), dual, box)
+        if proof is not None:
+            return proof
+        return prover.prove_from_fractions(basis_duals(self.program, *clp.basis()), dual, box)
+
+    def _leaf_by_answer(
+        self, prover: LeafProver, answered: Mapping[int, Number]
+    ) -> Optional[LeafProof]:
+        """By the answer's duals, rounded, or as they are where they are fractions."""
+        dual, box = MultiplierKind.DUAL, self._box()
+        duals = {i: self.program.sign * y for i, y in answered.items()}
         proof = prover.prove_from_doubles({i: float(y) for i, y in duals.items()}, dual, box)
         if proof is None and all(isinstance(y, Fraction) for y in duals.values()):
             fractions = {i: Fraction(y) for i, y in duals.items()}
             proof = prover.prove_from_fractions(fractions, dual, box)
         return proof
 
+    def _box(self) -> Box:
+        return Box(self.program.lower, self.program.upper)
+
     def _by_short_points(self, clp: Clp) -> Iterator[Evidence]:
         """`within` by short numbers, at the first point that is near the bound, else at the best."""
-        store, note, bound = self.store, self.store.note, self.store.bound
+        store = self.store
+        note, bound = store.note, store.bound
         far: List[FarPoint] = []
         refused = ""
         for made in self._short_points(clp):

@@ -200,12 +200,12 @@ class ParallelSearch:
             while "" not in self.proved and improved is None:
                 self.search.check_limits()
                 self._submit_units(until)
-                improved = self._collect(POLL_SECONDS)
+                improved = self._collect()
         except SearchPaused:
             while (
                 self.running and improved is None and self.deadline.spent() < until + GRACE_SECONDS
             ):
-                improved = self._collect(POLL_SECONDS)
+                improved = self._collect()
             if "" not in self.proved and improved is None:
                 raise
         finally:
@@ -256,6 +256,10 @@ class ParallelSearch:
         self.proved = {at: v for at, v in self.proved.items() if not at.startswith(place)}
         for subtree in self.subtrees():
             subtree.is_dropped = subtree.is_dropped or subtree.place.startswith(place)
+        self._cancel_dropped()
+
+    def _cancel_dropped(self) -> None:
+        """What nothing rests on is not worked any more, as far as that goes."""
         self.waiting = [subtree for subtree in self.waiting if not subtree.is_dropped]
         for future, subtree in self.running.items():
             if subtree.is_dropped:
@@ -289,9 +293,9 @@ class ParallelSearch:
         path = self._path(subtree.place)
         return WorkUnit(self.packed_problem, path, open_nodes, pseudocosts, seconds)
 
-    def _collect(self, seconds: float) -> Optional[ImprovedIncumbent]:
-        """Takes what ends within these seconds; a better point where one was found."""
-        ended = wait(self.running, seconds, FIRST_COMPLETED).done
+    def _collect(self) -> Optional[ImprovedIncumbent]:
+        """Takes what ends soon; a better point where one was found."""
+        ended = wait(self.running, POLL_SECONDS, FIRST_COMPLETED).done
         for future in ended:
             subtree = self.running.pop(future)
             if future.cancelled() or subtree.is_dropped:
@@ -309,18 +313,9 @@ class ParallelSearch:
             SearchEnded: The unit cannot be worked.
             PoolFailed: Too many processes died with it.
         """
-        try:
-            result = future.result()
-        except SearchEnded:
-            raise
-        except Exception as fault:  # whatever a process elsewhere ends by
-            subtree.faults += 1
-            if subtree.faults > MOST_FAULTS:
-                words = str(fault) or type(fault).__name__
-                raise PoolFailed(f"processes of the search fail ({words})") from None
-            return None
-        if result.improved is not None:
-            return result.improved
+        result = _result_of(subtree, future)
+        if result is None or result.improved is not None:
+            return None if result is None else result.improved
         self.search.nodes += result.nodes
         self.search.branching.pseudocosts = result.pseudocosts
         kept = {
@@ -346,6 +341,25 @@ class ParallelSearch:
         self.waiting += [s for s in self.running.values() if not s.is_dropped]
         while self.running:
             self.running.popitem()[0].cancel()
+
+
+def _result_of(subtree: Subtree, future: Future[UnitResult]) -> Optional[UnitResult]:
+    """None where the process died, which is counted.
+
+    Raises:
+        SearchEnded: The unit cannot be worked.
+        PoolFailed: Too many processes died with the subtree.
+    """
+    try:
+        return future.result()
+    except SearchEnded:
+        raise
+    except Exception as fault:  # whatever a process elsewhere ends by
+        subtree.faults += 1
+        if subtree.faults > MOST_FAULTS:
+            words = str(fault) or type(fault).__name__
+            raise PoolFailed(f"processes of the search fail ({words})") from None
+        return None
 
 
 def _remote(key: int, proved: ProvedSubtree) -> ProvedSubtree:

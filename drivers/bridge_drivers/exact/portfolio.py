@@ -26,7 +26,11 @@ from .tree import Tree
 from .worker_pools import SearchProblem, WorkerPool
 from .work_limit import check_work
 
-PLAIN, MIR, CLIQUE, THIN = "plain", "lemma", "clique", "thin"  # names of strategies, as told
+# names of strategies, as they are told
+PLAIN = "plain"
+MIR = "lemma"
+CLIQUE = "clique"
+THIN = "thin"
 KINDS_OF_CUTS: Mapping[str, FrozenSet[CutKind]] = {
     MIR: frozenset({CutKind.MIR}),
     CLIQUE: frozenset({CutKind.MIR, CutKind.CLIQUE}),
@@ -215,14 +219,14 @@ class Portfolio:
         return self.strategies[-1]
 
     def resume(
-        self, strategy: Strategy, seconds: float, most_nodes: int = MOST_NODES
+        self, strategy: Strategy, budget: float, most_nodes: int = MOST_NODES
     ) -> Optional[ImprovedIncumbent]:
         """Goes on with a strategy, for so many seconds or nodes; a better point where it has one."""
         if strategy.has_ended:
             return None
         began = self.deadline.spent()
         try:
-            found = strategy.search.resume(self.until(seconds), most_nodes)
+            found = strategy.search.resume(self.until(budget), most_nodes)
         except SearchEnded as ended:
             strategy.report = f"{strategy.name}: {ended}"
             strategy.has_ended = not isinstance(ended, SearchPaused)
@@ -278,9 +282,9 @@ class Portfolio:
             return math.inf
         return self.deadline.left() - RESERVE * self.deadline.seconds
 
-    def until(self, seconds: float) -> float:
-        """The second of the deadline after these, as far as there is time."""
-        return self.deadline.spent() + max(0.0, min(seconds, self.seconds_left()))
+    def until(self, budget: float) -> float:
+        """The second of the deadline after this budget, as far as there is time."""
+        return self.deadline.spent() + max(0.0, min(budget, self.seconds_left()))
 
     def seconds_so_far(self) -> float:
         return self.deadline.spent() - self.started
@@ -395,18 +399,18 @@ class Portfolio:
         ]
         return min(candidates, key=lambda s: s.estimated_seconds()) if candidates else None
 
-    def _is_preparation_due(self, seconds: float) -> bool:
+    def _is_preparation_due(self, budget: float) -> bool:
         """Whether more is made now. A lattice comes late, but at once where there is no value."""
         names = self.preparation.names
         if not names:
             return False
         is_lattice = names[0] == THIN
-        if seconds == math.inf or self.has_no_value and is_lattice:
+        if budget == math.inf or self.has_no_value and is_lattice:
             return True
         is_early = is_lattice and self.seconds_so_far() < LATTICE_AFTER_SECONDS
-        return seconds >= LEAST_CUT_SECONDS and not is_early
+        return budget >= LEAST_CUT_SECONDS and not is_early
 
-    def _prepare(self, seconds: float) -> None:
+    def _prepare(self, budget: float) -> None:
         """Some seconds of the first preparation; where it is done a strategy begins."""
         name = self.preparation.names[0]
         if name == THIN:
@@ -418,13 +422,13 @@ class Portfolio:
         elif self.cut_loop.solve_relaxation([]) is None:
             self.preparation.names.pop(0)
         else:
-            self._make_cuts(name, seconds)
+            self._make_cuts(name, budget)
 
-    def _make_cuts(self, name: str, seconds: float) -> None:
+    def _make_cuts(self, name: str, budget: float) -> None:
         """Some seconds of cuts. They are done when they end by themselves, in vain, or close much."""
         loop, preparation = self.cut_loop, self.preparation
         root_bound = loop.dual_bound
-        until = self.until(min(seconds, max(self.seconds_so_far(), FIRST_CUT_SECONDS)))
+        until = self.until(min(budget, max(self.seconds_so_far(), FIRST_CUT_SECONDS)))
         below_mir: Sequence[ProvedCut] = next(
             (s.cuts for s in self.strategies if s.name == MIR), ()
         )
@@ -437,12 +441,17 @@ class Portfolio:
             return
         preparation.names.pop(0)
         if cuts and (closed_share >= LEAST_CLOSED_SHARE or self.has_no_value):
-            forecast = FARTHEST_FORECAST * self.seconds_so_far()
-            without_cuts = min(self.strategies[0].estimated_seconds(), forecast)
-            estimate = without_cuts * SHARE_OF_REST * max(1 - closed_share, 0.0)
-            strategy = self.begin(name, cuts)
-            strategy.first_estimate = TURN_SECONDS if self.has_no_value else estimate
+            estimate = self._estimate_below_cuts(closed_share)
+            self.begin(name, cuts).first_estimate = estimate
         preparation.begin_next()
+
+    def _estimate_below_cuts(self, closed_share: float) -> float:
+        """Seconds of a search below cuts that close so much of the gap, by those without cuts."""
+        if self.has_no_value:
+            return TURN_SECONDS
+        forecast = FARTHEST_FORECAST * self.seconds_so_far()
+        without_cuts = min(self.strategies[0].estimated_seconds(), forecast)
+        return without_cuts * SHARE_OF_REST * max(1 - closed_share, 0.0)
 
     def _lattice_forms(self) -> List[Dict[int, int]]:
         """The forms to branch on beside columns, of pure integer programs that are small.
@@ -463,9 +472,9 @@ class Portfolio:
         return thin_directions(program, lattice.coefficients, width)
 
 
-def _next_turn(live: Sequence[Strategy], first: Strategy, seconds: float) -> Strategy:
+def _next_turn(live: Sequence[Strategy], first: Strategy, budget: float) -> Strategy:
     """The first strategy, or where there is time for others the one that had least."""
-    if seconds < TURN_SECONDS:
+    if budget < TURN_SECONDS:
         return first
     others = [strategy for strategy in live if strategy is not first]
     return min(others, key=lambda strategy: strategy.spent, default=first)

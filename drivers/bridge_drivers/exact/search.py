@@ -245,7 +245,9 @@ class BranchAndBound:
             SearchEnded: Where few nodes are not enough.
         """
         self.fathomer.set_cutoff(cutoff)
-        self.deadline, self.until, self.on_node = SearchDeadline(), math.inf, None
+        self.deadline = SearchDeadline()
+        self.until = math.inf
+        self.on_node = None
         self.most_depth = math.inf
         self.most_nodes = self.nodes + 2 * len(self.node.open_nodes) + NODES_TO_FINISH
         return self.run()
@@ -263,11 +265,7 @@ class BranchAndBound:
         if state is LpStatus.OPTIMAL and self._has_large_integers(x):
             x = self._exact_values(x)
         values = self._with_forms(x)
-        distances = {
-            j: abs(v - round(v))
-            for j, v in values.items()
-            if j >= self.program.n or self.program.is_integer[j]
-        }
+        distances = self._distances(values)
         fractional = [j for j, distance in distances.items() if distance > INTEGRALITY_TOLERANCE]
         if fractional and fractional[0] < self.program.n:
             relaxed = Relaxed(values, bound, max(self.cutoff_value - bound, LEAST_GAP))
@@ -331,6 +329,14 @@ class BranchAndBound:
             entries = self.node.entries(form)
             values[form] = sum(a // self.program.row_scale * x[k] for k, a in entries)
         return values
+
+    def _distances(self, values: Dict[int, float]) -> Dict[int, float]:
+        """How far integer columns, and forms, are from integers."""
+        return {
+            j: abs(v - round(v))
+            for j, v in values.items()
+            if j >= self.program.n or self.program.is_integer[j]
+        }
 
     def _improved_incumbent(self, x: Sequence[float]) -> Optional[ImprovedIncumbent]:
         """The exact point at x, where it is one that should not be there."""

@@ -47,12 +47,12 @@ class SearchDeadline(Deadline):
 
     process_is_ending: ClassVar[bool] = False
 
-    def __init__(self, seconds: float = math.inf, *, of_processor: bool = False) -> None:
-        super().__init__(seconds, of_processor=of_processor)
+    def __init__(self, limit: float = math.inf, *, of_processor: bool = False) -> None:
+        super().__init__(limit, of_processor=of_processor)
         self.on_progress: Optional[Callable[[SearchProgress], None]] = None
         self.incumbent: Optional[float] = None
         self.is_interrupted = False
-        self._all = Deadline(seconds * (1 + GRACE_SHARE) + GRACE_SECONDS)
+        self._all = Deadline(limit * (1 + GRACE_SHARE) + GRACE_SECONDS)
         self._verdict_share = 1.0
         self._told_at = time.monotonic()
 
@@ -99,7 +99,7 @@ class SearchDeadline(Deadline):
     def interrupt(self) -> None:
         """The user ends the search: at its next node, and soon wherever it is."""
         self.is_interrupted = True
-        shorten_work(INTERRUPT_SECONDS)
+        shorten_work(Deadline(INTERRUPT_SECONDS))
 
     def why(self, reason: str) -> str:
         """Why a search has no tree: its own reason, or an interrupt, which came in another one."""

@@ -18,9 +18,9 @@ def limit_work(deadline: Deadline) -> None:
     _deadline = deadline
 
 
-def shorten_work(seconds: float) -> None:
-    """All exact work ends within these seconds, or earlier where it has less."""
-    limit_work(_deadline.within(seconds))
+def shorten_work(deadline: Deadline) -> None:
+    """All exact work ends with this deadline, or earlier where it has less time."""
+    limit_work(_deadline.within(deadline.left()))
 
 
 def check_work() -> None:

@@ -118,7 +118,9 @@ def work(unit: WorkUnit) -> UnitResult:
     search = _search_cache.pop(unit.problem, None)
     if search is None:
         search = pickle.loads(unit.problem).search(SearchDeadline())
-    search.deadline, search.until, search.nodes = SearchDeadline(), unit.seconds, 0
+    search.deadline = SearchDeadline()
+    search.until = unit.seconds
+    search.nodes = 0
     strong_candidates = search.branching.strong_candidates
     search.branching = PseudocostBranching(strong_candidates, unit.pseudocosts)
     search.node.move_to(unit.path, unit.open_nodes)
@@ -203,6 +205,7 @@ class ProcessPool(WorkerPool):
                 raise PoolFailed(f"no processes for the search ({fault})") from None
 
     def stop(self) -> None:
+        """All have ended when this returns; what they worked is lost."""
         if self._started is None:
             return
         with SIGNALS.deferred():

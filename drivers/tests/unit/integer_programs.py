@@ -16,7 +16,12 @@ from programs import Column, Row, program
 def boxed_programs(draw: st.DrawFn) -> IntegerProgram:
     """Two to four integer columns in small boxes, under rows of all kinds."""
     columns = [
-        Column(draw(st.integers(-2, 0)), draw(st.integers(1, 3)), True, draw(st.integers(-9, 9)))
+        Column(
+            draw(st.integers(-2, 0)),
+            draw(st.integers(1, 3)),
+            is_integer=True,
+            cost=draw(st.integers(-9, 9)),
+        )
         for _ in range(draw(st.integers(2, 4)))
     ]
     rows = []
@@ -66,27 +71,28 @@ def optimum_of(p: IntegerProgram) -> Optional[Fraction]:
 
 
 KNAPSACK = program(
-    [Column(0, 1, True, cost) for cost in (10, 7, 12)],
+    [Column(0, 1, is_integer=True, cost=cost) for cost in (10, 7, 12)],
     [Row(None, 10, {0: 5, 1: 4, 2: "6.5"})],
     "max",
 )  # 17
 EQUATION = program(
-    [Column(0, 99, True, 1) for _ in range(3)], [Row(1000, 1000, {0: 37, 1: 53, 2: 111})]
+    [Column(0, 99, is_integer=True, cost=1) for _ in range(3)],
+    [Row(1000, 1000, {0: 37, 1: 53, 2: 111})],
 )  # 14
 COVER = program(
-    [Column(0, 1, True, cost) for cost in ("0.75", 1, "0.75", 1, "0.75", 1)],
+    [Column(0, 1, is_integer=True, cost=cost) for cost in ("0.75", 1, "0.75", 1, "0.75", 1)],
     [
         *(Row(1, None, {k: 1, (k + 1) % 6: 1}) for k in range(6)),
         Row(2, None, {0: 1, 2: 1, 4: 1, 5: 1}),
     ],
 )
 KNAPSACKS = program(
-    [Column(0, 1, True, 11 + 3 * (j * j % 7) + j % 3) for j in range(14)],
+    [Column(0, 1, is_integer=True, cost=11 + 3 * (j * j % 7) + j % 3) for j in range(14)],
     [Row(None, 90, {j: 10 + (7 * j * j + k) % 17 for j in range(14)}) for k in (0, 5)],
     "max",
 )  # a tree of some dozen nodes
 PIGEONS = program(
-    [Column(0, 1, True) for _ in range(20)],
+    [Column(0, 1, is_integer=True) for _ in range(20)],
     [
         *(Row(1, None, {5 * 0 + 4 * i + h: 1 for h in range(4)}) for i in range(5)),
         *(
@@ -101,7 +107,7 @@ LOTS = program(
     [
         *(Column() for _ in range(4)),
         *(Column(cost="0.3") for _ in range(4)),
-        *(Column(0, 1, True, cost) for cost in (5, 6, 7, 8)),
+        *(Column(0, 1, is_integer=True, cost=cost) for cost in (5, 6, 7, 8)),
     ],
     [
         Row(4, 4, {0: 1, 4: -1}),
@@ -112,6 +118,6 @@ LOTS = program(
     ],
 )  # 143/10: one lot for each period, its costs, and demands
 COINS = program(
-    [Column(0, 10**5, True, 1) for _ in range(4)],
+    [Column(0, 10**5, is_integer=True, cost=1) for _ in range(4)],
     [Row(89643481, 89643481, {0: 12223, 1: 12224, 2: 36674, 3: 61119})],
 )  # no sum of these coins is that

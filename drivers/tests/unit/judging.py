@@ -62,9 +62,9 @@ class Judge:
         certificate = read_certificate(text)
         fault = self.fault(certificate)
         if fault:
-            return Judged(fault, False)
+            return Judged(fault, is_proved=False)
         self.accepted.append("\n".join(text))
-        return Judged(self.line(certificate), True)
+        return Judged(self.line(certificate), is_proved=True)
 
     def line(self, certificate: Certificate) -> str:
         words = [certificate.claim, *map(str, certificate.numbers)]
@@ -125,7 +125,8 @@ class Judge:
 
     def split_parts(self, node: Node, part: Part) -> Tuple[Part, Part]:
         assert self.program.is_integer[node.column]
-        at, low, high = int(node.at), list(part.lower), list(part.upper)
+        at = int(node.at)
+        low, high = list(part.lower), list(part.upper)
         old_low, old_high = low[node.column], high[node.column]
         high[node.column] = Fraction(at) if old_high is None else min(old_high, Fraction(at))
         low[node.column] = Fraction(at + 1) if old_low is None else max(old_low, Fraction(at + 1))

@@ -31,7 +31,7 @@ def market_split(equations: int) -> IntegerProgram:
     for _ in range(equations):
         sizes = [rng.randint(0, 99) for _ in range(count)]
         rows.append(Row(sum(sizes) // 2, sum(sizes) // 2, {j: a for j, a in enumerate(sizes) if a}))
-    return program([Column(0, 1, True) for _ in range(count)], rows)
+    return program([Column(0, 1, is_integer=True) for _ in range(count)], rows)
 
 
 class TellingPool(ProcessPool):
@@ -53,7 +53,9 @@ class TellingPool(ProcessPool):
 def main() -> None:
     SIGNALS.install()
     parallel.NODES_BEFORE_PARALLEL = 3
-    pool, deadline, hard = TellingPool(2), SearchDeadline(3600.0), market_split(6)
+    pool = TellingPool(2)
+    deadline = SearchDeadline(3600.0)
+    hard = market_split(6)
     try:
         with interrupts_to(deadline.interrupt):
             claim = AnswerClaim.INFEASIBLE

@@ -55,7 +55,11 @@ def test_no_point() -> None:
 
 
 def test_unbounded() -> None:
-    p = program([Column(0, None, True, 1) for _ in range(2)], [Row(None, 3, {0: 1, 1: -1})], "max")
+    p = program(
+        [Column(0, None, is_integer=True, cost=1) for _ in range(2)],
+        [Row(None, 3, {0: 1, 1: -1})],
+        "max",
+    )
     assert certified(p, AnswerClaim.UNBOUNDED).line == "unbounded"
 
 
@@ -106,7 +110,11 @@ def test_mixed_programs(p: IntegerProgram) -> None:
 @pytest.mark.parametrize("proves", [True, False])
 def test_an_answer_beside_a_point(off: int, proves: bool) -> None:
     """An objective column that is off by the digits of a solver, or by more: the point stays."""
-    columns = [Column(0, 9, True), Column(0, 9, True), Column(0, 10**7, True, 1)]
+    columns = [
+        Column(0, 9, is_integer=True),
+        Column(0, 9, is_integer=True),
+        Column(0, 10**7, is_integer=True, cost=1),
+    ]
     rows = [Row(0, 0, {0: 123457, 1: 98765, 2: -1}), Row(None, 11, {0: 1, 1: 1})]
     best = 9 * 123457 + 2 * 98765
     answer = AnswerByPlace([9.0, 2.0, float(best + off)])

@@ -21,7 +21,9 @@ from programs import Column, Row, program
 def binary_programs(draw: st.DrawFn) -> IntegerProgram:
     """Rows over binary columns, and one other integer column."""
     count = draw(st.integers(3, 5))
-    columns = [Column(0, 1, True) for _ in range(count)] + [Column(-1, 2, True)]
+    columns = [Column(0, 1, is_integer=True) for _ in range(count)] + [
+        Column(-1, 2, is_integer=True)
+    ]
     rows = []
     for _ in range(draw(st.integers(1, 4))):
         weights = {j: draw(st.integers(-4, 5)) for j in range(count + 1)}
@@ -63,7 +65,7 @@ def test_knapsack_rows_hold_at_all_points(p: IntegerProgram) -> None:
 def test_complements() -> None:
     """x0 + (1 - x1) + x2 is at most 1, as three rows of pairs say."""
     pairs = [Row(None, 0, {0: 1, 1: -1}), Row(None, 1, {0: 1, 2: 1}), Row(None, 0, {2: 1, 1: -1})]
-    p = program([Column(0, 1, True) for _ in range(3)], pairs)
+    p = program([Column(0, 1, is_integer=True) for _ in range(3)], pairs)
     found = [cut for cut in clique_cuts(p, [0.5, 0.5, 0.5]) if len(cut.coefficients) == 3]
     assert [(cut.coefficients, cut.rhs) for cut in found] == [({0: 1, 1: -1, 2: 1}, 0)]
     assert found[0].violation == 0.5

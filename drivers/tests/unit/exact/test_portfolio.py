@@ -155,7 +155,7 @@ def test_cliques_refute_pigeons() -> None:
     ],
 )
 def test_bounds_in_few_digits(costs: tuple[object, ...], bound: float, wanted: Fraction) -> None:
-    columns = [Column(0, 10, True, cost) for cost in costs]  # type: ignore[arg-type]
+    columns = [Column(0, 10, is_integer=True, cost=cost) for cost in costs]  # type: ignore[arg-type]
     p = program(columns, [Row(None, 3, {0: 1, 1: 1})], "max")
     value: Optional[Fraction] = Fraction(-9) if costs[0] == 3 else Fraction(-1)
     assert Portfolio(p, value, no_point, SearchDeadline()).rounded_bound(bound) == wanted
