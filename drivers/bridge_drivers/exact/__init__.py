@@ -1,6 +1,15 @@
-"""The search for certificates: a program in whole numbers in, the text of a certificate out.
+"""The search for certificates: a program in whole numbers and a judge in, a certificate out.
 
-Nothing that is found here is trusted. The judge is a callable that is given the text: in this
-project the proved program's `verify`. A wrong step in the search can only make the judge refuse the
-text.
+Nothing that is found here is trusted: a judge that the caller gives is asked of each text, and its
+line is all that is told. The front is `certifier.certify`. From below:
+
+- exact numbers: `linear_systems`, `basis`, `rational_simplex`, `lattice`, `hermite`; CLP (`clp`,
+  `relaxation`);
+- bounds and leaves: `dual_bound`, `leaf_proofs`, `short_duals`; points: `points`, `short_points`;
+- certificates: `tree` (nodes as data), `certificate` (its text);
+- cuts: `mir`, `mir_separation`, `cliques`, `cuts` (rounds at the root);
+- branch and bound: `node`, `fathoming`, `branching`, `search`; by several processes `parallel` and
+  `worker_pools`; strategies that race in `portfolio`;
+- what is claimed: `evidence`, `task`, `refutations`, `linear_certifier`, `integer_certifier`,
+  `certifier`; time: `search_deadline`, `work_limit`.
 """
