@@ -15,6 +15,7 @@ import itertools
 from array import array
 from collections import Counter, defaultdict
 from dataclasses import dataclass
+from functools import cached_property
 from typing import Dict, Iterator, List, NamedTuple, Optional, Sequence, Tuple
 
 import numpy as np
@@ -260,9 +261,7 @@ class _MpsReader:
 
     def _read_bounds(self, section: _Section) -> None:
         """Lines `KIND SET COLUMN VALUE`. Those of a column stand together, columns in their order."""
-        columns = self.columns
         at, last = -1, b""
-        place_of: Dict[bytes, int] = {}
         for block in section.blocks():
             words = _words_of_bounds(block)
             for kind, first, third, fourth in zip(
@@ -271,19 +270,24 @@ class _MpsReader:
                 name = third if first else fourth
                 if name != last:
                     last = name
-                    at = (at + 1) % len(columns)
-                    if columns[at] != name:  # they do not stand in their order
-                        place_of = place_of or {name: j for j, name in enumerate(columns)}
-                        at = place_of[name]
-                self._set_bound(at, kind, fourth)
+                    at = self._place_behind(at, name)
+                if kind == b"LO":  # most bounds are of these two kinds
+                    self.lower[at] = fourth
+                elif kind == b"UP":
+                    self.upper[at] = fourth
+                else:
+                    self._set_bound(at, kind, fourth)
+
+    def _place_behind(self, place: int, name: bytes) -> int:
+        """Of a column, which mostly stands behind the one before."""
+        at = (place + 1) % len(self.columns)
+        return at if self.columns[at] == name else self._place_of_column[name]
+
+    @cached_property
+    def _place_of_column(self) -> Dict[bytes, int]:
+        return {name: place for place, name in enumerate(self.columns)}
 
     def _set_bound(self, column: int, kind: bytes, value: bytes) -> None:
-        if kind == b"LO":  # most bounds are of these two kinds
-            self.lower[column] = value
-            return
-        if kind == b"UP":
-            self.upper[column] = value
-            return
         if kind in LOWER_BOUNDS:
             fixed = LOWER_BOUNDS[kind]
             self.lower[column] = value if fixed is None else fixed

@@ -15,12 +15,20 @@ import copy
 import math
 from dataclasses import dataclass
 from functools import cached_property
-from typing import Dict, List, NamedTuple, Optional, Sequence
+from typing import Dict, List, NamedTuple, Optional, Sequence, Tuple
 
 import numpy as np
 from numpy.typing import NDArray
 
-from ..formats.mps import OBJECTIVE, MpsColumns, Places, canonical, read_mps, write_mps
+from ..formats.mps import (
+    OBJECTIVE,
+    MpsColumns,
+    Places,
+    RowBounds,
+    canonical,
+    read_mps,
+    write_mps,
+)
 from ..formats.names import NameLists
 from ..formats.numbers import read_fraction
 from ..system.text import first_of, one_line
@@ -172,7 +180,7 @@ class LinearProgram:
             and lower
             and upper
             and math.floor(read_fraction(upper)) < math.ceil(read_fraction(lower))
-            for is_integer, lower, upper in zip(self.is_integer, *self.written.bounds())
+            for is_integer, lower, upper in zip(self.is_integer, *self._bounds)
         )
 
     def count_of_huge(self, size: float) -> int:
@@ -180,8 +188,8 @@ class LinearProgram:
         written = self.written
         texts = [text for row, text in written.rhs.items() if row != OBJECTIVE]
         texts += written.ranges.values()
-        for pair in zip(written.lower, written.upper):
-            texts += [bound for bound in set(pair) if bound]
+        pairs = zip(written.lower, written.upper)
+        texts += [bound for pair in pairs for bound in set(pair) if bound]
         is_huge = {text: abs(float(text)) >= size for text in set(texts)}
         return sum(map(is_huge.__getitem__, texts)) if any(is_huge.values()) else 0
 
@@ -226,23 +234,23 @@ class LinearProgram:
     @cached_property
     def lower(self) -> Doubles:
         """Lower bounds of columns in doubles, minus infinity where there is none."""
-        return _in_doubles(self.written.bounds()[0], -math.inf)
+        return _in_doubles(self._bounds[0], -math.inf)
 
     @cached_property
     def upper(self) -> Doubles:
         """Upper bounds of columns in doubles, infinity where there is none."""
-        return _in_doubles(self.written.bounds()[1], math.inf)
+        return _in_doubles(self._bounds[1], math.inf)
 
     @cached_property
     def row_lower(self) -> Doubles:
         """Lower bounds of rows in doubles, minus infinity where there is none."""
-        lower, _, denominator = self.written.row_bounds()
+        lower, _, denominator = self._row_bounds
         return np.array([-math.inf if v is None else v / denominator for v in lower], np.float64)
 
     @cached_property
     def row_upper(self) -> Doubles:
         """Upper bounds of rows in doubles, infinity where there is none."""
-        _, upper, denominator = self.written.row_bounds()
+        _, upper, denominator = self._row_bounds
         return np.array([math.inf if v is None else v / denominator for v in upper], np.float64)
 
     def objective_terms(self, x: Sequence[float]) -> ObjectiveTerms:
@@ -261,6 +269,15 @@ class LinearProgram:
             written.entry_columns[chosen],
             written.entry_numbers[chosen],
         )
+
+    @cached_property
+    def _bounds(self) -> Tuple[List[bytes], List[bytes]]:
+        """Of columns, as they are written; empty where there is none."""
+        return self.written.bounds()
+
+    @cached_property
+    def _row_bounds(self) -> RowBounds:
+        return self.written.row_bounds()
 
     @cached_property
     def _doubles(self) -> List[float]:

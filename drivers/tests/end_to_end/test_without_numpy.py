@@ -11,7 +11,7 @@ import pytest
 COMMANDS = sorted((Path(__file__).parents[2] / "bin").iterdir())
 
 
-@pytest.mark.parametrize("command", COMMANDS, ids=lambda path: path.name)
+@pytest.mark.parametrize("command", COMMANDS, ids=[path.name for path in COMMANDS])
 def test_a_python_without_numpy(command: Path, tmp_path: Path) -> None:
     (tmp_path / "numpy.py").write_text("raise ModuleNotFoundError(name='numpy')\n")
     ended = subprocess.run(
