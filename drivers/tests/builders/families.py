@@ -95,7 +95,8 @@ def network(size: int, rnd: random.Random, number: Callable[[float, float], Numb
     arcs, nodes = max(4, size // 2), max(3, size // 16)
     need = [0] * nodes
     for _ in range(nodes // 3 + 1):
-        a, b, v = rnd.randrange(nodes), rnd.randrange(nodes), rnd.randint(1, 2000)
+        a, b = rnd.randrange(nodes), rnd.randrange(nodes)
+        v = rnd.randint(1, 2000)
         need[a] += v
         need[b] -= v
     rows: List[Dict[int, Number]] = [{} for _ in range(nodes)]
@@ -397,7 +398,9 @@ def charges(sources: int, sinks: int, rnd: random.Random) -> bytes:
 
 def one_machine(n: int, rnd: random.Random) -> bytes:
     """Completion times by weight, with release dates and a big M."""
-    time, release, weight = drawn(rnd, n, 2, 9), drawn(rnd, n, 0, 2 * n), drawn(rnd, n, 1, 9)
+    time = drawn(rnd, n, 2, 9)
+    release = drawn(rnd, n, 0, 2 * n)
+    weight = drawn(rnd, n, 1, 9)
     end = max(release) + sum(time)
     columns, rows = [real(at, end) for at in release], list[RowParts]()
     for i in range(n):

@@ -156,7 +156,8 @@ def contradictions(rng: random.Random) -> Parts:
 def small_costs(rng: random.Random) -> Parts:
     """What is gained is less than what solvers tell apart, or beside a large cost."""
     n = rng.randint(2, 4)
-    columns, scale, row = whole(rng, n), sized(rng, 6, 10), terms(rng, n, 1, 6)
+    columns, scale = whole(rng, n), sized(rng, 6, 10)
+    row = terms(rng, n, 1, 6)
     side = rng.randint(2, most_of(columns, row))
     costs: Dict[int, Number] = {j: decimal(rng.randint(1, 9) * scale) for j in range(n)}
     if rng.random() < 0.5:
@@ -240,7 +241,8 @@ def tiny_rays(rng: random.Random) -> Parts:
 def whole_rays(rng: random.Random) -> Parts:
     """Two whole columns that go on together, with a gain that is little beside their costs, without an end or to one
     that is far."""
-    a, b, gain = rng.randint(1, 5), rng.randint(1, 5), sized(rng, 5, 14)
+    a, b = rng.randint(1, 5), rng.randint(1, 5)
+    gain = sized(rng, 5, 14)
     cost, end = F(rng.randint(0, 9)), rng.choice([None, None, 10 ** rng.randint(3, 7)])
     columns = [("I", 0, None if end is None else end * b), ("I", 0, None)]
     rows = [(rng.choice([None, 0]), 0, {0: a, 1: -b})]  # at b and a times t

@@ -80,7 +80,8 @@ class Plain:
     def sides(self) -> dict[str, Ends]:
         found: dict[str, Ends] = {}
         for row in self.constraints():
-            kind, at, width = self.kinds[row], self.rhs.get(row, F(0)), self.ranges.get(row)
+            kind, at = self.kinds[row], self.rhs.get(row, F(0))
+            width = self.ranges.get(row)
             ends = [None if kind == "L" else at, None if kind == "G" else at]
             if width is not None:
                 up = kind == "G" or kind == "E" and width >= 0

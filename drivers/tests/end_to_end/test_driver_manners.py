@@ -2,6 +2,7 @@
 
 from __future__ import annotations
 
+import dataclasses
 
 import pytest
 
@@ -9,65 +10,66 @@ from builders.small_models import MODELS
 from running.workspace import VERSION, Call, SolContent, Workspace
 
 
+WRITTEN = [
+    Call(
+        "bridge-cbc m.nl",
+        stored="knap",
+        prints=["optimal solution; objective 17\nbridge check", "l 17\n"],
+        files={"m.sol": False},
+    ),
+    Call("bridge-cbc m -s", stored="knap", sol=SolContent(code=0)),
+]
+
+
 @pytest.mark.needs("program")
-def test_written(workspace: Workspace) -> None:
-    """Without -AMPL or -s nothing is written."""
-    workspace.write("m.nl", MODELS["knap"].text)
-    workspace.check(
-        Call(
-            "bridge-cbc m.nl",
-            stored="knap",
-            prints=["optimal solution; objective 17\nbridge check", "l 17\n"],
-            files={"m.sol": False},
-        )
-    )
-    workspace.check(Call("bridge-cbc m -s", stored="knap", sol=SolContent(code=0)))
-    workspace.write("m.nl", MODELS["product"].text)
+@pytest.mark.parametrize("call", WRITTEN, ids=str)
+def test_written(workspace: Workspace, call: Call) -> None:
+    """Without -AMPL or -s no .sol is written."""
+    workspace.write_model(call.stored)
+    workspace.check(call)
+
+
+VALUES_AS_JSON = (
+    '{\n "values": {\n  "desk": "2",\n  "chair": "4"\n },\n'
+    ' "duals": {\n  "c0": "1",\n  "c1": "0"\n }\n}\n'
+)
+
+
+@pytest.mark.needs("program")
+@pytest.mark.parametrize(
+    ("name", "content"),
+    [("m.values", "desk 2\nchair 4\n\nduals\nc0 1\nc1 0\n"), ("m.json", VALUES_AS_JSON)],
+)
+def test_solution_in_a_file(workspace: Workspace, name: str, content: str) -> None:
+    """Names and values, as JSON by the file's end; what stands there stays."""
+    workspace.write_model("product")
     workspace.write("m.col", "desk\nchair\n")
+    words = f"bridge-cbc m -e solution={name}"
     workspace.check(
-        Call(
-            "bridge-cbc m -e solution=m.values",
-            stored="product",
-            prints=["m.values is written\n"],
-            files={"m.values": "desk 2\nchair 4\n\nduals\nc0 1\nc1 0\n"},
-        )
+        Call(words, stored="product", prints=[f"{name} is written\n"], files={name: content})
     )
-    workspace.write("m.values", "letters")
-    workspace.check(
-        Call(
-            "bridge-cbc m -e solution=m.values",
-            5,
-            stored="product",
-            prints=["it stands there"],
-            files={"m.values": "letters"},
-        )
-    )
-    workspace.check(
-        Call(
-            "bridge-cbc m -e solution=m.json",
-            stored="product",
-            files={
-                "m.json": '{\n "values": {\n  "desk": "2",\n  "chair": "4"\n },\n "duals": {\n  '
-                '"c0": "1",\n  "c1": "0"\n }\n}\n'
-            },
-        )
-    )
-    workspace.path("m.col").unlink()
-    workspace.check(
-        Call(
-            "bridge-cbc m -e wantsol=7",
-            stored="product",
-            ends_with="optimal 19\nx0 2\nx1 4\nduals\nc0 1\nc1 0\n",
-        )
-    )
-    workspace.check(Call("bridge-cbc m -e", stored="product", ends_with="optimal 19\nx0 2\nx1 4\n"))
-    workspace.check(
-        Call("bridge-cbc m -e wantsol=2", stored="product", ends_with="optimal 19\nx0 2\nx1 4\n")
-    )
-    workspace.check(Call("bridge-cbc m -e wantsol=0", stored="product", ends_with="optimal 19\n"))
-    workspace.check(Call("bridge-cbc m -e -s", stored="product", ends_with="optimal 19\n"))
-    workspace.check(Call("bridge-cbc m -e -AMPL", stored="product", lacks=["x0 2"]))
-    workspace.check(Call("bridge-cbc m -e wantsol=8", stored="product", lacks=["optimal", "x0"]))
+    workspace.write(name, "letters")
+    told = ["it stands there"]
+    workspace.check(Call(words, 5, stored="product", prints=told, files={name: "letters"}))
+
+
+SHOWN = [
+    Call("bridge-cbc m -e wantsol=7", ends_with="optimal 19\nx0 2\nx1 4\nduals\nc0 1\nc1 0\n"),
+    Call("bridge-cbc m -e", ends_with="optimal 19\nx0 2\nx1 4\n"),
+    Call("bridge-cbc m -e wantsol=2", ends_with="optimal 19\nx0 2\nx1 4\n"),
+    Call("bridge-cbc m -e wantsol=0", ends_with="optimal 19\n"),
+    Call("bridge-cbc m -e -s", ends_with="optimal 19\n"),
+    Call("bridge-cbc m -e -AMPL", lacks=["x0 2"]),
+    Call("bridge-cbc m -e wantsol=8", lacks=["optimal", "x0"]),
+]
+
+
+@pytest.mark.needs("program")
+@pytest.mark.parametrize("call", SHOWN, ids=str)
+def test_values_that_are_shown(workspace: Workspace, call: Call) -> None:
+    """A screen of them where the command is called by hand; all or none where that is said."""
+    workspace.write_model("product")
+    workspace.check(dataclasses.replace(call, stored="product"))
 
 
 ENVIRONMENT = [

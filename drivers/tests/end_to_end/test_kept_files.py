@@ -123,72 +123,42 @@ def test_pages(workspace: Workspace) -> None:
 
 
 @pytest.mark.needs("program")
-def test_imports(workspace: Workspace) -> None:
-    """An import onto what stands there, and onto itself."""
-    workspace.write("m.mps", MPS_MODELS["free_form"].text.encode())
-    workspace.write("nl.nl", "letters\n")
+@pytest.mark.parametrize("kind", ["nl", "row", "col"])
+def test_import_onto_a_file(workspace: Workspace, kind: str) -> None:
+    """Where one of its three files stands there, none is written, unless that is asked for."""
+    files = {"new.nl", "new.row", "new.col"}
+    older = f"new.{kind}"
+    workspace.write("m.mps", MPS_MODELS["free_form"].text)
+    workspace.write(older, "letters\n")
     workspace.check(
         Call(
-            "nl-bridge import m.mps FOLDER/nl.nl",
+            "nl-bridge import m.mps FOLDER/new.nl",
             5,
-            prints=["FOLDER/nl.nl: it stands there"],
-            files={"nl.nl": "letters\n", "nl.row": False, "nl.col": False},
+            prints=[f"FOLDER/{older}: it stands there"],
+            files={name: "letters\n" if name == older else False for name in files},
         )
     )
     workspace.check(
         Call(
-            "nl-bridge overwrite=1 import m.mps FOLDER/nl",
+            "nl-bridge overwrite=1 import m.mps FOLDER/new",
             prints=["is written"],
-            files={"nl.nl": True, "nl.row": True, "nl.col": True},
+            files={name: True for name in files},
         )
     )
-    workspace.write("row.row", "letters\n")
+
+
+@pytest.mark.needs("program")
+@pytest.mark.parametrize("more", ["", " overwrite=1"], ids=["", "overwrite"])
+def test_import_onto_itself(workspace: Workspace, more: str) -> None:
+    """What a command reads is never replaced."""
+    text = MPS_MODELS["free_form"].text
+    workspace.write("m.nl", text)
     workspace.check(
         Call(
-            "nl-bridge import m.mps FOLDER/row.nl",
-            5,
-            prints=["FOLDER/row.row: it stands there"],
-            files={"row.row": "letters\n", "row.nl": False, "row.col": False},
-        )
-    )
-    workspace.check(
-        Call(
-            "nl-bridge overwrite=1 import m.mps FOLDER/row",
-            prints=["is written"],
-            files={"row.nl": True, "row.row": True, "row.col": True},
-        )
-    )
-    workspace.write("col.col", "letters\n")
-    workspace.check(
-        Call(
-            "nl-bridge import m.mps FOLDER/col.nl",
-            5,
-            prints=["FOLDER/col.col: it stands there"],
-            files={"col.col": "letters\n", "col.nl": False, "col.row": False},
-        )
-    )
-    workspace.check(
-        Call(
-            "nl-bridge overwrite=1 import m.mps FOLDER/col",
-            prints=["is written"],
-            files={"col.nl": True, "col.row": True, "col.col": True},
-        )
-    )
-    workspace.write("m.nl", MPS_MODELS["free_form"].text.encode())
-    workspace.check(
-        Call(
-            "nl-bridge import m.nl m",
+            f"nl-bridge import m.nl m{more}",
             5,
             prints=["it is what this command reads"],
-            files={"m.nl": MPS_MODELS["free_form"].text.encode(), "m.row": False},
-        )
-    )
-    workspace.check(
-        Call(
-            "nl-bridge import m.nl m overwrite=1",
-            5,
-            prints=["it is what this command reads"],
-            files={"m.nl": MPS_MODELS["free_form"].text.encode(), "m.row": False},
+            files={"m.nl": text, "m.row": False},
         )
     )
 

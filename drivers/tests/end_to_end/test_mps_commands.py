@@ -3,11 +3,14 @@
 from __future__ import annotations
 
 import gzip
+from typing import Sequence
 
 import pytest
 
 from builders.mps_models import MPS_MODELS
 from running.workspace import Call, Workspace
+
+FIXED = MPS_MODELS["fixed"].text.encode()
 
 NL_BRIDGE = [
     Call("nl-bridge verify m.mps m.certificate", output="feasible -23/2\n"),
@@ -63,15 +66,15 @@ NL_BRIDGE = [
 @pytest.mark.parametrize("call", NL_BRIDGE, ids=str)
 def test_nl_bridge(workspace: Workspace, call: Call) -> None:
     """MPS files, with certificates of a point that is within the rows, and of others."""
-    workspace.write("m.mps", MPS_MODELS["fixed"].text.encode())
-    workspace.write("m.mps.gz", gzip.compress(MPS_MODELS["fixed"].text.encode()))
+    workspace.write("m.mps", FIXED)
+    workspace.write("m.mps.gz", gzip.compress(FIXED))
     workspace.write("m.certificate", "certificate 1\nfeasible 0\npoint 2\n0 1\n1 1\n")
     workspace.write("m.high", "certificate 1\nfeasible 0\npoint 2\n0 1\n1 3/2\n")
     workspace.write("m.over", "certificate 1\nfeasible 0\npoint 2\n0 1\n2 1\n")
     workspace.write("m.second", "certificate 1\nfeasible 1\npoint 0\n")
     workspace.write(
         "m.blank",
-        MPS_MODELS["fixed"].text.encode().replace(b"    ONE       COST", b"    MY ONE    COST"),
+        FIXED.replace(b"    ONE       COST", b"    MY ONE    COST"),
     )
     workspace.write(
         "m.digits",
@@ -81,98 +84,79 @@ def test_nl_bridge(workspace: Workspace, call: Call) -> None:
 
 
 @pytest.mark.needs("mps", "solver")
-def test_driver(workspace: Workspace, first_driver: str) -> None:
-    """Before a driver, the first that is there."""
-    workspace.write("m.mps", gzip.compress(MPS_MODELS["fixed"].text.encode())[:60])
-    workspace.check(
-        Call(
-            f"bridge-{first_driver} m.mps",
-            2,
-            prints=["m.mps: the packed file ends too soon or is damaged"],
-        )
-    )
-    workspace.write(
-        "m.mps",
-        MPS_MODELS["fixed"].text.encode().replace(b"    ONE       COST", b"    MY ONE    COST"),
-    )
-    workspace.check(
-        Call(f"bridge-{first_driver} m.mps", 2, prints=["names with blanks are not read"])
-    )
-    workspace.write("m.mps", MPS_MODELS["fixed"].text.encode())
-    workspace.check(
-        Call(f"bridge-{first_driver} m.mps objno=2", 2, prints=["objno=2: no such objective"])
-    )
-    workspace.check(
-        Call(f"bridge-{first_driver} m.mps shortest=1", 3, prints=["shortest=1 is for .nl files"])
-    )
-    workspace.check(
-        Call(
-            f"bridge-{first_driver} m.mps format=nl",
-            3,
-            prints=["format=nl: free or fixed is wanted"],
-        )
-    )
-    workspace.check(
-        Call(
-            f"bridge-{first_driver} m.mps -AMPL",
-            3,
-            prints=["a .sol is the answer to an .nl file: wantsol=2"],
-            files={"m.sol": False},
-        )
-    )
-    workspace.check(
-        Call(
-            f"bridge-{first_driver} m.mps -s",
-            3,
-            prints=["a .sol is the answer to an .nl file: wantsol=2"],
-        )
-    )
-    assert workspace.names() == {"m.mps"}
+@pytest.mark.parametrize(
+    ("text", "told"),
+    [
+        (gzip.compress(FIXED)[:60], "m.mps: the packed file ends too soon or is damaged"),
+        (
+            FIXED.replace(b"    ONE       COST", b"    MY ONE    COST"),
+            "names with blanks are not read",
+        ),
+    ],
+    ids=["damaged", "blank-in-a-name"],
+)
+def test_files_that_a_driver_refuses(
+    workspace: Workspace, first_driver: str, text: bytes, told: str
+) -> None:
+    """Before the first driver whose solver is there."""
+    workspace.write("m.mps", text)
+    workspace.check(Call(f"bridge-{first_driver} m.mps", 2, prints=[told]))
 
 
 @pytest.mark.needs("mps", "solver")
-def test_verdicts(workspace: Workspace, first_driver: str) -> None:
+@pytest.mark.parametrize(
+    ("word", "status", "told"),
+    [
+        ("objno=2", 2, "objno=2: no such objective"),
+        ("shortest=1", 3, "shortest=1 is for .nl files"),
+        ("format=nl", 3, "format=nl: free or fixed is wanted"),
+        ("-AMPL", 3, "a .sol is the answer to an .nl file: wantsol=2"),
+        ("-s", 3, "a .sol is the answer to an .nl file: wantsol=2"),
+    ],
+)
+def test_words_that_a_driver_refuses(
+    workspace: Workspace, first_driver: str, word: str, status: int, told: str
+) -> None:
+    """What an MPS file does not go with; nothing is written."""
+    workspace.write("m.mps", FIXED)
+    workspace.check(Call(f"bridge-{first_driver} m.mps {word}", status, prints=[told]))
+    assert workspace.names() == {"m.mps"}
+
+
+WHOLE_BY_MARKERS = (
+    "NAME t\nROWS\n N o\n E row\nCOLUMNS\n M 'MARKER' 'INTORG'\n col o 1 row 1\n"
+    " M 'MARKER' 'INTEND'\nRHS\n row 1.5\nENDATA\n"
+)
+EMPTY_INTERVAL = (
+    "NAME t\nROWS\n N o\n G r\nCOLUMNS\n x o 1 r 1\n low o 1\nBOUNDS\n LO B low 3\n UP B low 2\n"
+    "ENDATA\n"
+)
+OTHER_FORM = (
+    "it is read in free form; in fixed columns it is another program, which format=fixed reads"
+)
+
+
+@pytest.mark.needs("mps", "solver")
+@pytest.mark.parametrize(
+    ("text", "words", "told"),
+    [
+        (
+            MPS_MODELS["cut_off"].text,
+            "json=1",
+            ['"code": 0', "optimal -23/2", OTHER_FORM],
+        ),
+        (MPS_MODELS["cut_off"].text, "json=1 format=fixed", ['"code": 0', "optimal -33/2"]),
+        (WHOLE_BY_MARKERS, "wantsol=6 relax=1", ["variable 0 (col) is not whole"]),
+        (EMPTY_INTERVAL, "json=1", ['"code": 200', "m.mps: column 1 (low): empty interval"]),
+    ],
+    ids=["free", "fixed", "relaxed", "empty-interval"],
+)
+def test_verdicts(
+    workspace: Workspace, first_driver: str, text: str, words: str, told: Sequence[str]
+) -> None:
     """What a driver says of a text that is another program in fixed columns, and of others."""
-    workspace.write("m.mps", MPS_MODELS["cut_off"].text.encode())
-    workspace.check(
-        Call(
-            f"bridge-{first_driver} m.mps json=1",
-            prints=[
-                '"code": 0',
-                "optimal -23/2",
-                "it is read in free form; in fixed columns it is another program, "
-                "which format=fixed reads",
-            ],
-        )
-    )
-    workspace.check(
-        Call(
-            f"bridge-{first_driver} m.mps json=1 format=fixed",
-            prints=['"code": 0', "optimal -33/2"],
-        )
-    )
-    workspace.write(
-        "m.mps",
-        "NAME t\nROWS\n N o\n E row\nCOLUMNS\n M 'MARKER' 'INTORG'\n col o 1 row "
-        "1\n M 'MARKER' 'INTEND'\nRHS\n row 1.5\nENDATA\n",
-    )
-    workspace.check(
-        Call(
-            f"bridge-{first_driver} m.mps wantsol=6 relax=1",
-            prints=["variable 0 (col) is not whole"],
-        )
-    )
-    workspace.write(
-        "m.mps",
-        "NAME t\nROWS\n N o\n G r\nCOLUMNS\n x o 1 r 1\n low o 1\nBOUNDS\n LO B "
-        "low 3\n UP B low 2\nENDATA\n",
-    )
-    workspace.check(
-        Call(
-            f"bridge-{first_driver} m.mps json=1",
-            prints=['"code": 200', "m.mps: column 1 (low): empty interval"],
-        )
-    )
+    workspace.write("m.mps", text)
+    workspace.check(Call(f"bridge-{first_driver} m.mps {words}", prints=told))
 
 
 @pytest.mark.needs("mps", "solver")

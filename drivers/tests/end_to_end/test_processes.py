@@ -61,57 +61,39 @@ def test_faults(workspace: Workspace, call: Call) -> None:
     workspace.check(call)
 
 
+@pytest.mark.parametrize(
+    ("driver", "package"),
+    [
+        ("cbc", "coinor-cbc"),
+        ("clp", "coinor-clp"),
+        ("esolver", "qsopt-ex"),
+        ("glpsol", "glpk-utils"),
+        ("lp_solve", "lp-solve"),
+    ],
+)
+def test_missing_solver(workspace: Workspace, driver: str, package: str) -> None:
+    """The package of Debian that has it is named."""
+    workspace.write_model("knap")
+    workspace.script("bridge", "exit 3")
+    workspace.check(
+        Call(
+            f"bridge-{driver} m",
+            127,
+            environment={"PATH": "/nonexistent", "BRIDGE": "FOLDER/bridge"},
+            output=f"bridge-{driver}: {driver} was not found: apt install {package} (Debian) or "
+            "give solver=PATH\n",
+        )
+    )
+
+
 @pytest.mark.needs("program")
-def test_missing(workspace: Workspace) -> None:
-    """Programs that are not there, or fail."""
-    workspace.write("m.nl", MODELS["knap"].text)
-    workspace.write("bridge", "#!/bin/sh\nexit 3\n")
-    workspace.check(
-        Call(
-            "bridge-cbc m",
-            127,
-            environment={"PATH": "/nonexistent", "BRIDGE": "FOLDER/bridge"},
-            output="bridge-cbc: cbc was not found: apt install coinor-cbc (Debian) or "
-            "give solver=PATH\n",
-        )
-    )
-    workspace.check(
-        Call(
-            "bridge-clp m",
-            127,
-            environment={"PATH": "/nonexistent", "BRIDGE": "FOLDER/bridge"},
-            output="bridge-clp: clp was not found: apt install coinor-clp (Debian) or "
-            "give solver=PATH\n",
-        )
-    )
-    workspace.check(
-        Call(
-            "bridge-esolver m",
-            127,
-            environment={"PATH": "/nonexistent", "BRIDGE": "FOLDER/bridge"},
-            output="bridge-esolver: esolver was not found: apt install qsopt-ex "
-            "(Debian) or give solver=PATH\n",
-        )
-    )
-    workspace.check(
-        Call(
-            "bridge-glpsol m",
-            127,
-            environment={"PATH": "/nonexistent", "BRIDGE": "FOLDER/bridge"},
-            output="bridge-glpsol: glpsol was not found: apt install glpk-utils "
-            "(Debian) or give solver=PATH\n",
-        )
-    )
-    workspace.check(
-        Call(
-            "bridge-lp_solve m",
-            127,
-            environment={"PATH": "/nonexistent", "BRIDGE": "FOLDER/bridge"},
-            output="bridge-lp_solve: lp_solve was not found: apt install lp-solve "
-            "(Debian) or give solver=PATH\n",
-        )
-    )
-    workspace.write("cbc", "#!/bin/sh\necho out of paper >&2; exit 7\n")
+@pytest.mark.parametrize(
+    "script", ["echo out of paper >&2; exit 7", "kill -9 $$"], ids=["fails", "is-killed"]
+)
+def test_solver_that_fails(workspace: Workspace, script: str) -> None:
+    """There is no answer."""
+    workspace.write_model("knap")
+    workspace.script("cbc", script)
     workspace.check(
         Call(
             "bridge-cbc m -AMPL solver=FOLDER/cbc",
@@ -119,28 +101,28 @@ def test_missing(workspace: Workspace) -> None:
             sol=SolContent(code=506),
         )
     )
-    workspace.write("cbc", "#!/bin/sh\nkill -9 $$\n")
-    workspace.check(
-        Call(
-            "bridge-cbc m -AMPL solver=FOLDER/cbc",
-            prints=["CBC gave no usable answer"],
-            sol=SolContent(code=506),
-        )
-    )
-    workspace.check(
-        Call(
-            "bridge-cbc m -AMPL solver=/nonexistent/cbc",
-            prints=["/nonexistent/cbc was not found: install it or give solver=PATH"],
-            sol=SolContent(code=503),
-        )
-    )
-    workspace.check(
-        Call(
-            "bridge-cbc m -AMPL solver=/bin/true bridge=/nonexistent/b",
-            prints=["could not be run"],
-            sol=SolContent(code=503),
-        )
-    )
+
+
+NAMED_PROGRAMS = [
+    Call(
+        "bridge-cbc m -AMPL solver=/nonexistent/cbc",
+        prints=["/nonexistent/cbc was not found: install it or give solver=PATH"],
+        sol=SolContent(code=503),
+    ),
+    Call(
+        "bridge-cbc m -AMPL solver=/bin/true bridge=/nonexistent/b",
+        prints=["could not be run"],
+        sol=SolContent(code=503),
+    ),
+]
+
+
+@pytest.mark.needs("program")
+@pytest.mark.parametrize("call", NAMED_PROGRAMS, ids=str)
+def test_missing_program_that_is_named(workspace: Workspace, call: Call) -> None:
+    """The solver, or the proved program."""
+    workspace.write_model("knap")
+    workspace.check(call)
 
 
 def test_passed(workspace: Workspace) -> None:

@@ -22,7 +22,8 @@ from running.stored_runs import StoredRun, stored_runs
 from running.workspace import Workspace
 
 SOLVED, UNSURE = 0, 100
-INFEASIBLE, INFEASIBLE_OR_UNBOUNDED, UNBOUNDED = 200, 290, 300
+INFEASIBLE, UNBOUNDED = 200, 300
+INFEASIBLE_OR_UNBOUNDED = 290
 LIMIT_WITH_POINT, LIMIT = 400, 450
 NO_ANSWER = 506
 INTERRUPTED = 130  # the exit status
@@ -154,7 +155,7 @@ LP_SOLVE_VALUES = "Actual values of the variables:"
 UNKNOWN_STATUS = "Quite done"
 
 
-def run_with_status(driver: str, words: str, has_point: bool) -> StoredRun:
+def run_with_status(driver: str, words: str, *, has_point: bool) -> StoredRun:
     """The stored run of a model, with another status, by the solver's format."""
     run = copy.deepcopy(stored_runs(driver)[model_of(driver)])
     log = run.logs["solver.log"]
@@ -216,7 +217,7 @@ def _all_statuses() -> Iterator[object]:
 @pytest.mark.parametrize(("driver", "case"), _all_statuses())
 def test_status(workspace: Workspace, driver: str, case: StatusCase, has_point: bool) -> None:
     """A point is a point, whatever the status; without one little is an answer."""
-    run = run_with_status(driver, case.words, has_point)
+    run = run_with_status(driver, case.words, has_point=has_point)
     sol = answer_without_checks(workspace, driver, model_of(driver), run)
     assert sol.code == (case.with_point if has_point else case.without_point), sol.text
 
@@ -234,7 +235,7 @@ def test_status(workspace: Workspace, driver: str, case: StatusCase, has_point: 
 )
 def test_unknown_status(workspace: Workspace, driver: str, told: str) -> None:
     """A status of no table, with a point: judged, and told in its own words."""
-    run = run_with_status(driver, UNKNOWN_STATUS, True)
+    run = run_with_status(driver, UNKNOWN_STATUS, has_point=True)
     if driver == "glpsol":
         set_glpk_letters(run, " f ", " q ")
     sol = answer_without_checks(workspace, driver, model_of(driver), run)

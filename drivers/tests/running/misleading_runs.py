@@ -11,7 +11,8 @@ from running.places import MIXED_INTEGER_SOLVERS
 from running.sol_file import SolFile
 from running.workspace import Workspace
 
-SOLVED, INFEASIBLE, UNBOUNDED = 0, 200, 300
+SOLVED = 0
+INFEASIBLE, UNBOUNDED = 200, 300
 
 
 @dataclass(frozen=True)
