@@ -322,10 +322,12 @@ def _run_proved_program(
         ended = processes.run([*place, *call], Deadline(), streams=streams)
     except OSError as fault:
         raise NotStarted(place[0], str(fault.strerror)) from None
-    line = ended.output.decode("utf-8", "surrogateescape").rstrip("\n")
+    output = ended.output.decode("utf-8", "surrogateescape")
     told = ended.errors.decode("utf-8", "surrogateescape").rstrip("\n")
-    if line.strip():
-        console.verdict(line)
+    if is_coloured and output.strip():
+        console.verdict(output.rstrip("\n"))
+    elif output:
+        console.output(output)
     if ended.status == ExitStatus.UNREAD and has_fault:
         told = f"{NAME}: {why_unreadable(files, dict(zip(files, files_of_call(words))))}"
     if told:
