@@ -128,8 +128,10 @@ class NoVerdict(ProgramFailed):
     """
 
     def __init__(self, reply: Reply) -> None:
-        start = reply.out[:SHOWN_BYTES].decode("utf-8", "replace").partition("\n")[0]
-        super().__init__(f"`{start}` with status {reply.status} is no verdict")
+        start = reply.out.partition(b"\n")[0][:SHOWN_BYTES]
+        more = " and more" if len(reply.out) > len(start) + 1 else ""
+        shown = start.decode("utf-8", "replace")
+        super().__init__(f"`{shown}`{more} with status {reply.status} is no verdict")
         self.reply = reply
 
     def describe(self) -> str:

@@ -169,6 +169,21 @@ def test_lines_of_check(status: int, line: str, is_verdict: bool) -> None:
         read_check(reply(status, line))
 
 
+@pytest.mark.parametrize(
+    "out, told",
+    [
+        (b"optimal 17\n", "`optimal 17` with status 1"),
+        (b"", "`` with status 1"),
+        (b"optimal 17\noptimal 18\n", "`optimal 17` and more with status 1"),
+        (b"\xff" * 1000, "`" + "\ufffd" * 60 + "` and more with status 1"),
+    ],
+)
+def test_what_is_told_of_a_text_that_is_no_verdict(out: bytes, told: str) -> None:
+    with pytest.raises(NoVerdict, match="is not the proved one") as caught:
+        Verdict(Reply(1, out, ""))
+    assert caught.value.reason == f"{told} is no verdict"
+
+
 def test_a_verdict_cannot_be_changed() -> None:
     verdict = Verdict(reply(1, "leaf 0 gap 3"))
     with pytest.raises(AttributeError):

@@ -1,0 +1,57 @@
+"""A program `bridge` that is not the proved one: nothing that it says of a certificate is told as proved."""
+
+from __future__ import annotations
+
+import re
+import shlex
+
+import pytest
+
+from running.places import EXAMPLES, program
+from running.workspace import Workspace
+
+PROVED = re.compile(r"(?m)^(?:optimal|feasible|within|bound) \S+$|^(?:infeasible|unbounded)$")
+ANSWERS = [
+    "echo optimal 99; exit 1",
+    "echo leaf 0 gap 3; exit 0",
+    "echo optimal 99; echo optimal 17; exit 0",
+    "exit 0",
+    "exit 1",
+    "echo optimal 1e999999999; exit 0",
+    "printf 'optimal 99'; exit 0",
+    "echo yes 99; exit 0",
+    "yes optimal | head -c 100000; exit 0",
+]
+
+
+def lying(workspace: Workspace, answer: str) -> str:
+    """The words that start a program which answers `verify` by a line of a shell, and else is the proved one."""
+    script = workspace.script(
+        "lying", f'case $1 in verify*) {answer};; esac\nexec {shlex.join(program())} "$@"'
+    )
+    return shlex.quote(str(script))
+
+
+@pytest.mark.needs("program", "cbc", "clp")
+@pytest.mark.parametrize("answer", ANSWERS)
+def test_a_run_ends_with_an_error(workspace: Workspace, answer: str) -> None:
+    workspace.copy_files(EXAMPLES)
+    environment = {"BRIDGE": lying(workspace, answer)}
+    ended = workspace.run("bridge-cbc", "knap", "-AMPL", "prove=1", environment=environment)
+    assert "is not the proved one" in ended.text
+    assert not PROVED.search(ended.text)
+    sol = workspace.sol("knap.sol")
+    assert (sol.code, sol.values) == (501, [])
+    assert "is no verdict" in sol.last_line
+
+
+@pytest.mark.needs("program")
+@pytest.mark.parametrize("answer", ANSWERS)
+def test_no_certificate_is_said_to_hold(workspace: Workspace, answer: str) -> None:
+    workspace.copy_files(EXAMPLES)
+    environment = {"BRIDGE": lying(workspace, answer)}
+    words = ("nl-bridge", "explain", "knap.nl", "knap.certificate", "--html=knap.html")
+    ended = workspace.run(*words, environment=environment)
+    assert ended.status == 1
+    assert "is no verdict" in ended.err and "holds" not in ended.text
+    assert not workspace.path("knap.html").exists()
