@@ -66,6 +66,7 @@ def without(program: Program, case: Case, library: str, number: int) -> tuple[bo
 
 
 def memory(program: Program) -> Iterator[Judged]:
+    """Each case with each of its allocations refused: status 6, or the usual answer where it was not needed."""
     library = program.place("refuse.so")
     subprocess.run(
         ["cc", "-O2", "-shared", "-fPIC", "-o", library, os.path.join(HERE, "refuse.c"), "-ldl"],
@@ -87,6 +88,7 @@ def memory(program: Program) -> Iterator[Judged]:
 
 
 def limits(program: Program, table: str, chosen: Sequence[str] = ()) -> Iterator[Judged]:
+    """The cases of a table (those with one of the chosen words), with at most 4 GB and 1,000 seconds each."""
     for case in texts.cases(table):
         if not chosen or any(word in case.name for word in chosen):
             done = program.tried(case, 1000)

@@ -44,13 +44,10 @@ TABLES = (
 def group(column: Column) -> int:
     """0 continuous, 1 binary, 2 integer."""
     is_whole, (lower, upper), _ = column
-    return (
-        0
-        if not is_whole
-        else 1
-        if lower is not None and upper is not None and lower >= 0 and upper <= 1
-        else 2
-    )
+    if not is_whole:
+        return 0
+    is_binary = lower is not None and upper is not None and lower >= 0 and upper <= 1
+    return 1 if is_binary else 2
 
 
 def said(text: str) -> tuple[bool, Fraction, list[Ends], list[Column]]:
@@ -140,8 +137,9 @@ def main(path: str, *commands: str) -> None:
         if not commands or case.words[0] in commands
     ]
     results = [check(program, case) for case in cases]
-    print(f"{len(results)} examples, {results.count(False)} failed")
-    sys.exit(1 if False in results else 0)
+    failed = sum(not holds for holds in results)
+    print(f"{len(results)} examples, {failed} failed")
+    sys.exit(1 if failed else 0)
 
 
 main(*asked(__doc__, 1))

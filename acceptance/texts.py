@@ -106,7 +106,7 @@ def expanded(words: Sequence[str], names: Names) -> Iterator[str]:
                 + (
                     f"yield from {word[1:]}"
                     if word.startswith("<")
-                    else f"yield {'f' * ('{' in word)}{word!r}"
+                    else f"yield {'f' if '{' in word else ''}{word!r}"
                 )
             )
         depth += word.startswith("[") - (word == "]")
@@ -186,6 +186,7 @@ class Table:
             self.take(row)
 
     def take(self, row: str) -> None:
+        """A row of the table: a name for lines, a maker of cases, or a case."""
         if (found := NAMED.fullmatch(row)) is not None:
             self.names[found[1]] = [line.rstrip("\n") for line in self.text(found[2]).lines()]
         elif (found := MAKER.fullmatch(row)) is not None:
@@ -210,6 +211,7 @@ class Table:
         return Text(words, self.names)
 
     def case(self, name: str, cells: Sequence[str]) -> Case:
+        """The case that cells say: words of the program, texts of its files, and what comes of it."""
         words, *texts, outcome = cells
         limited = re.match(r"(\d+) s: ", outcome)
         seconds, outcome = (
@@ -267,6 +269,8 @@ class Done:
 
 
 class Program:
+    """The program that is tried, with a folder of its own for the files of a case."""
+
     def __init__(self, path: str) -> None:
         self.path = os.path.abspath(path)
         self.folder = tempfile.TemporaryDirectory()

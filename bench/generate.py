@@ -82,34 +82,27 @@ def factor(rnd: random.Random, form: str) -> str:
 
 
 def rows(variables: int, count: int, per_row: int, form: str = "linear") -> Iterator[str]:
+    """Rows of decimals over random variables, a quarter of them binary and a quarter whole.
+
+    Args:
+        variables: How many variables the model has.
+        count: How many rows.
+        per_row: How many terms each row has.
+        form: What carries the terms: `linear` J segments, `list` sums of products, `quotients` sums of quotients,
+            `defined` a defined variable a row.
+    """
     rnd = random.Random(1)
     per_row = min(per_row, variables)
     binary = variables // 4
     integer = variables // 2 - binary
     columns = [sorted(rnd.sample(range(variables), per_row)) for _ in range(count)]
-    yield header(
-        variables,
-        count,
-        binary,
-        integer,
-        count * per_row,
-        variables,
-        count if form == "defined" else 0,
-    )
-    if form == "defined":
-        for i, row in enumerate(columns):
-            yield f"V{variables + i} {len(row)} 0\n" + "".join(
-                f"{j} {decimal(rnd)}\n" for j in row
-            ) + "n0\n"
+    defined = count if form == "defined" else 0
+    yield header(variables, count, binary, integer, count * per_row, variables, defined)
+    for i, row in enumerate(columns[:defined]):
+        terms = "".join(f"{j} {decimal(rnd)}\n" for j in row)
+        yield f"V{variables + i} {len(row)} 0\n{terms}n0\n"
     for i, row in enumerate(columns):
-        if form == "list":
-            yield f"C{i}\no54\n{len(row)}\n" + "".join(f"o2\nn{decimal(rnd)}\nv{j}\n" for j in row)
-        elif form == "quotients":
-            yield f"C{i}\no54\n{len(row)}\n" + "".join(
-                f"o3\nv{j}\nn{rnd.choice((3, 6, 7, 9))}\n" for j in row
-            )
-        else:
-            yield f"C{i}\nv{variables + i}\n" if form == "defined" else f"C{i}\nn0\n"
+        yield f"C{i}\n{expression(rnd, row, form, variables + i)}"
     yield "O0 1\nn12.5\nr\n"
     for i in range(count):
         yield (f"1 {per_row * 50}\n", f"2 -{per_row * 50}\n", f"0 -{i % 999} 7\n")[i % 3]
@@ -118,13 +111,23 @@ def rows(variables: int, count: int, per_row: int, form: str = "linear") -> Iter
         yield ("2 0\n", "0 -10 20.5\n", "3\n", "1 100\n")[j % 4]
     yield "0 0 1\n" * binary + "0 0 40\n" * integer
     counts = [0] * variables
-    for row in columns:
-        for j in row:
-            counts[j] += 1
+    for j in chain.from_iterable(columns):
+        counts[j] += 1
     yield columns_before(counts)
     for i, row in enumerate(columns):
         yield f"J{i} {len(row)}\n" + "".join(f"{j} {factor(rnd, form)}\n" for j in row)
     yield f"G0 {variables}\n" + "".join(f"{j} {decimal(rnd)}\n" for j in range(variables))
+
+
+def expression(rnd: random.Random, row: list[int], form: str, defined: int) -> str:
+    """The expression of a row in one of these forms; `defined` is the number of its defined variable."""
+    if form == "list":
+        terms = "".join(f"o2\nn{decimal(rnd)}\nv{j}\n" for j in row)
+        return f"o54\n{len(row)}\n{terms}"
+    if form == "quotients":
+        terms = "".join(f"o3\nv{j}\nn{rnd.choice((3, 6, 7, 9))}\n" for j in row)
+        return f"o54\n{len(row)}\n{terms}"
+    return f"v{defined}\n" if form == "defined" else "n0\n"
 
 
 def right(variables: list[str], front: str = "o0\n") -> Iterator[str]:
@@ -169,6 +172,7 @@ def spine(variables: list[str]) -> Iterator[str]:
 
 
 def nested(count: int, shape: str) -> Iterator[str]:
+    """One row whose expression is a deep tree of so many variables, in one of the shapes."""
     rnd = random.Random(1)
     places = list(range(count))
     rnd.shuffle(places)
@@ -198,6 +202,7 @@ def nested(count: int, shape: str) -> Iterator[str]:
 
 
 def one_row(count: int, order: str) -> Iterator[str]:
+    """One row of so many terms, with its columns ascending, descending or in any order (`mixed`)."""
     rnd = random.Random(1)
     places = list(range(count))
     if order == "mixed":
@@ -220,6 +225,7 @@ def distinct(rnd: random.Random, first: str, count: int, size: int) -> list[str]
 
 
 def mps(entries: int, names: str) -> Iterator[str]:
+    """An MPS text of so many entries, whose names are `numbered`, `short` (7 bytes) or `long` (30)."""
     rnd = random.Random(1)
     size = {"numbered": 0, "short": 6, "long": 29}[names]
     count = entries // TERMS

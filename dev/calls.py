@@ -63,7 +63,7 @@ class Call(NamedTuple):
         clauses = ", ".join(label or "its clause" for label in LABEL.findall(self.head)) or "none"
         tests = ", ".join(self.made_in(texts))
         return (
-            f"{self.crate}: {self.name}: {clauses}{'; memory' * self.wants_memory}"
+            f"{self.crate}: {self.name}: {clauses}{'; memory' if self.wants_memory else ''}"
             + (f"; {tests}" if tests else "")
             + (f"\n    {self.words}" if self.words else "")
         )

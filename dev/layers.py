@@ -39,12 +39,16 @@ class Import(NamedTuple):
 
 
 class Layer(NamedTuple):
+    """One layer: which modules are in it, and which layers they may import."""
+
     name: str
     patterns: Tuple[str, ...]
     allowed: Optional[Tuple[str, ...]]  # None: all lower ones
 
 
 class Layers(NamedTuple):
+    """All layers, the lowest first, and whether imports for annotations alone are free."""
+
     layers: List[Layer]
     is_typing_free: bool
 
@@ -66,6 +70,7 @@ class Layers(NamedTuple):
 
 
 def layers_of(path: Path) -> Layers:
+    """The layers that a file names, as the head of this script says."""
     layers: List[Layer] = []
     is_typing_free = False
     for line in path.read_text(encoding="utf-8").splitlines():
@@ -95,7 +100,9 @@ class Finder(ast.NodeVisitor):
     """The imports of one module, each by the place where it stands."""
 
     def __init__(self, package: str, module: str, is_package: bool, modules: Set[str]) -> None:
-        self.package, self.module, self.modules = package, module, modules
+        self.package = package
+        self.module = module
+        self.modules = modules
         self.parents = module.split(".") if is_package and module else module.split(".")[:-1]
         self.place = "module"
         self.found: List[Import] = []
@@ -200,6 +207,7 @@ def levels(edges: Dict[str, Set[str]], modules: Dict[str, Path]) -> int:
 
 
 def wrong_layers(imports: List[Import], modules: Dict[str, Path], layers: Layers) -> Iterator[str]:
+    """Modules that are in no layer, and imports that their layer may not have."""
     for module in modules:
         if layers.of(module) is None:
             yield f"{module or 'the package'}: is in no layer"
@@ -215,6 +223,7 @@ def wrong_layers(imports: List[Import], modules: Dict[str, Path], layers: Layers
 def wrong(
     imports: List[Import], modules: Dict[str, Path], layers: Optional[Layers]
 ) -> Iterator[str]:
+    """All that is wrong: cycles, and where there are layers what breaks them."""
     is_typing_free = layers is not None and layers.is_typing_free
     counted = PLACES[:2] if is_typing_free else PLACES
     for cycle in cycles(edges_of(imports, counted)):

@@ -35,13 +35,14 @@ BARS = {
     "light": ("#ffffff", "#1f2328", "#1a7f37", "#e2e5e9", "#bf8700"),
     "dark": ("#0d1117", "#e6edf3", "#3fb950", "#2a313a", "#d29922"),
 }
-WIDTH, GAP, BAND, EDGE = (
-    1120,
-    24,
-    46,
-    10,
-)  # of the picture, between boxes of a row, between rows, within a box
-BARS_WIDTH, LEFT, HIGH, STEP = 900, 330, 16, 30  # of the bars
+WIDTH = 1120  # of the picture of the crates
+GAP = 24  # between boxes of a row
+BAND = 46  # between rows
+EDGE = 10  # within a box
+BARS_WIDTH = 900  # of the picture of the bars
+LEFT = 330  # where bars begin
+HIGH = 16  # of a bar
+STEP = 30  # from one bar to the next
 ROW = re.compile(r"^\| ([^|\n]*) \|[^|\n]*\| (\d+\.\d+)[^|\n]*\| (\d+\.\d+)?", re.M)
 LINE, LETTER = 16, 6.4  # the height of a line of names, the width of a letter, as boxes reckon it
 
@@ -107,7 +108,9 @@ def line_count(crate: str) -> int:
 def chains() -> str:
     """A line a crate, those with the longest chain last."""
     uses = own_uses()
-    counts, rank, under = {name: line_count(name) for name in uses}, ranks(uses), below(uses)
+    counts = {name: line_count(name) for name in uses}
+    rank = ranks(uses)
+    under = below(uses)
     told = []
     for name in sorted(uses, key=lambda it: rank[it]):
         above = [it for it in uses if name in under[it]]
@@ -192,12 +195,10 @@ def downward(start: Box, end: Box) -> str:
 
 def upward(start: Box, end: Box, place: int) -> str:
     """That from the left side of a box to that of one above it, beside both."""
-    lane, a, b = (
-        max(8.0, min(start.x, end.x) - 14 - 10 * place),
-        start.y + 20 + 12 * place,
-        end.y + end.height / 2,
-    )
-    return f"M{start.x:.0f} {a:.0f} H{lane:.0f} V{b:.0f} H{end.x:.0f}"
+    lane = max(8.0, min(start.x, end.x) - 14 - 10 * place)
+    leaves_at = start.y + 20 + 12 * place
+    arrives_at = end.y + end.height / 2
+    return f"M{start.x:.0f} {leaves_at:.0f} H{lane:.0f} V{arrives_at:.0f} H{end.x:.0f}"
 
 
 def arrow(start: Box, end: Box, stroke: str, way: str, dashes: str = "") -> str:
@@ -208,6 +209,7 @@ def arrow(start: Box, end: Box, stroke: str, way: str, dashes: str = "") -> str:
 
 
 def drawn(box: Box, ink: str, faint: str, fill: str, edge: str) -> str:
+    """A room as SVG: its name, what it holds, and its crates, in these colours."""
     left = box.x + EDGE
     lines = "".join(
         f'<text x="{left:.0f}" y="{box.y + 54 + LINE * place:.0f}" font-size="12" fill="{ink}">{line}</text>'
@@ -262,6 +264,7 @@ def bars() -> list[tuple[str, float, float | None]]:
 
 
 def bars_picture(scheme: str) -> str:
+    """The ratios of the README's table as bars, light or dark."""
     ground, ink, ours, other, mark = BARS[scheme]
     found, out = bars(), []
     height = STEP * len(found) + 40

@@ -137,7 +137,9 @@ def judge_in_batches(module: Any, size: int, seconds: float) -> None:
             batches[:1] = judge_one(copy, batches[0])
             print(f"{sum(map(len, batches))} plants left in this pass", file=sys.stderr, flush=True)
 
-    module.Copy.compiled, module.Copy.check, module.Copy.judge = compiled, tried, judge
+    module.Copy.compiled = compiled
+    module.Copy.check = tried
+    module.Copy.judge = judge
 
 
 def main(words: list[str]) -> int:

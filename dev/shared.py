@@ -95,6 +95,7 @@ class Import:
 
 
 def imports_of(text: str) -> Iterator[Import]:
+    """What the `use` lines of a file of definitions bring in, name by name."""
     for number, line in enumerate(text.splitlines(), 1):
         found = IMPORT.match(line)
         for part in (found["names"] or "").split(",") if found else ():
@@ -154,7 +155,11 @@ class File:
         }
 
     def read(self, text: str) -> None:
-        comment, last, is_open, depths = list[str](), list[str](), False, {0}
+        """Cuts the text into definitions: each is what stands at a depth where one may begin, with its comment."""
+        comment: list[str] = []
+        last: list[str] = []  # where lines that go on are added
+        is_open = False  # whether a definition goes on
+        depths = {0}  # columns at which a definition may begin
         for number, line in enumerate(map(str.rstrip, text.splitlines()), 1):
             depth = len(line) - len(line.lstrip())
             if IMPORT.match(line):

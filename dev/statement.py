@@ -335,6 +335,7 @@ def senses(statement: Statement, theorem: str) -> dict[str, list[str]]:
 
 
 def told_senses(statement: Statement) -> str:
+    """The names with two senses in each statement that is looked at alone, a line a name."""
     lines = []
     for it in ALONE:
         named = senses(statement, it)
@@ -376,11 +377,10 @@ def complaints(statement: Statement) -> list[str]:
                 f"{', '.join(named)} (dev/statement.py --senses)"
             )
     is_stale = READING.read_text() != reading(statement)
-    return (
-        sorted(found)
-        + [f"{READING.relative_to(TOP)} is not as the definitions are: dev/statement.py --write"]
-        * is_stale
-    )
+    if not is_stale:
+        return sorted(found)
+    stale = f"{READING.relative_to(TOP)} is not as the definitions are: dev/statement.py --write"
+    return [*sorted(found), stale]
 
 
 def main(words: list[str]) -> int:

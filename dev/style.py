@@ -214,6 +214,8 @@ def undocumented(module: Module) -> Found:
     for node in ast.walk(module.tree):
         if not isinstance(node, Defined) or not is_public(module, node) or ast.get_docstring(node):
             continue
+        if module.places[node] == "main":  # the docstring of the module says what a script does
+            continue
         if isinstance(node, ast.ClassDef) or lines_of(node) > LEAST_LINES_WITH_DOCSTRING:
             yield node, f"{node.name} says nothing of itself"
 
