@@ -191,7 +191,7 @@ def _explained(call: FrontCall) -> Report:
         return api.explain(rest[0])
     if NUMBER.fullmatch(rest[1]):
         return api.explain(rest[0], objective=int(rest[1]))
-    return api.explain(
+    return api.explanation_report(
         rest[0],
         rest[1],
         html=call.pages.get("html", ""),
