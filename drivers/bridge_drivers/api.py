@@ -247,9 +247,16 @@ def _explanation(model: ReadModel, source: Source) -> Explanation:
         constraints=model.constraints(),
         program=program,
         note=note,
-        model_file=ExplainedFile(model.source.name, sha256_of_file(model.path)),
+        model_file=ExplainedFile(model.source.name, _sum_of_judged(model)),
         certificate_file=ExplainedFile(source.name, source.sha256()),
     )
+
+
+def _sum_of_judged(model: ReadModel) -> str | None:
+    """The SHA-256 of the text that was judged: the file's own, or that of the text made of it."""
+    if model.path == model.source.path:
+        return model.source.sha256()
+    return sha256_of_file(model.path)
 
 
 def figures(model: GivenModel, *, objective: int = 0, bridge: str = "") -> Report:
