@@ -51,7 +51,8 @@ from .system.errors import (
     UnsupportedModel,
     WrongOption,
 )
-from .system.signals import SIGNALS, Interrupted
+from .system.errors import Interrupted
+from .system.signals import SIGNALS
 from .system.text import one_line
 
 Path = Union[str, "os.PathLike[str]"]
