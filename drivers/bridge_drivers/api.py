@@ -11,11 +11,12 @@ import contextlib
 import os
 import signal
 import threading
+from dataclasses import replace
 from typing import Any, Callable, Iterator, Mapping, NamedTuple, Sequence, Union
 
 from .exact.certificate import read_certificate
 from .formats.source import Source, Workspace, read_source
-from .inputs import Subject, subject_of
+from .pipeline.read_model import ReadModel, read_program
 from .pipeline.memory import GivenModel, is_in_memory, read_given_model
 from .pipeline.monitor import Monitor, ProgressEvent
 from .pipeline.option_values import RunSettings, checked_values, run_settings, values_of_words
@@ -50,7 +51,8 @@ from .system.errors import (
     UnsupportedModel,
     WrongOption,
 )
-from .system.signals import SIGNALS, Interrupted
+from .system.errors import Interrupted
+from .system.signals import SIGNALS
 from .system.text import one_line
 
 Path = Union[str, "os.PathLike[str]"]
@@ -145,9 +147,9 @@ def verify(model: GivenModel, certificate: Path, *, bridge: str = "") -> Report:
     call.certificate = os.fspath(certificate)
     with _opened_model(call, model, bridge) as opened:
         source = opened.read_certificate(certificate)
-        verdict = opened.subject.bridge.verify(opened.subject.path, source.path)
+        verdict = opened.model.bridge.verify(opened.model.path, source.path)
         status = ExitStatus.DONE if verdict.is_proved else ExitStatus.FAILED
-        lines = [*opened.subject.notes, verdict.line]
+        lines = [*opened.model.notes, verdict.line]
         return call.report(verdict.line, lines, verdict.statement, status=status)
 
 
@@ -174,40 +176,68 @@ def explain(
 
     Raises:
         ModelRefused: The model is refused: `report.refusal` says why and what helps.
-        BridgeError: A file cannot be read.
+        FileFault: A file cannot be read, or a page cannot be written.
+        BridgeError: There is no answer for another reason.
     """
+    report = explanation_report(
+        model,
+        certificate,
+        objective=objective,
+        html=html,
+        svg=svg,
+        overwrite=overwrite,
+        bridge=bridge,
+    )
+    if report.status == ExitStatus.UNWRITTEN:
+        fault = FileFault("", report.lines[-1], FileAction.WRITE)
+        fault.report = replace(report, text=report.lines[-1])
+        raise fault
+    return report
+
+
+def explanation_report(
+    model: GivenModel,
+    certificate: Path | None,
+    *,
+    objective: int = 0,
+    html: Path = "",
+    svg: Path = "",
+    overwrite: bool = False,
+    bridge: str = "",
+) -> Report:
+    """As `explain`; that a page cannot be written is told in the last line, and by the status 5."""
     call = ReportedCall(FRONT)
     with _opened_model(call, model, bridge) as opened:
-        subject = opened.subject
+        read = opened.model
         if certificate is None:
-            if subject.own is None:
-                subject.bridge.export(subject.path, objective)
-            text = f"{subject.given.name}: is not refused"
-            return call.report(text, [*subject.notes, text])
+            if read.own is None:
+                read.bridge.export(read.path, objective)
+            text = f"{read.source.name}: is not refused"
+            return call.report(text, [*read.notes, text])
         source = opened.read_certificate(certificate)
-        explanation = _explanation(subject, source)
+        explanation = _explanation(read, source)
         verdict = explanation.verdict
         status = ExitStatus.DONE if verdict.is_proved else ExitStatus.FAILED
         paths = PagePaths(os.fspath(html), os.fspath(svg), overwrite)
-        reads = [subject.given.path, subject.given.name, source.name]
+        reads = [read.source.path, read.source.name, source.name]
         written = explanation.write(paths, reads)
         return call.report(
             verdict.line,
-            [*map(one_line, explanation.lines()), *subject.notes, *written.lines],
+            [*map(one_line, explanation.lines()), *read.notes, *written.lines],
             verdict.statement,
             status=status if written.are_all_written else ExitStatus.UNWRITTEN,
             explained=explanation.details(),
         )
 
 
-def _explanation(model: Subject, source: Source) -> Explanation:
+def _explanation(model: ReadModel, source: Source) -> Explanation:
     """The verdict on a certificate, and what there is to say of it."""
     verdict = model.bridge.verify(model.path, source.path)
     with open(source.path, encoding="ascii") as lines:
         certificate = read_certificate(lines)
     program, note = None, ""
     try:
-        objective = str(certificate.objective or 0)
+        objective = certificate.objective or 0
         program = whole_form(model.bridge, model.path, model.program(objective)).program
     except (ProgramFailed, UnsupportedModel) as fault:
         note = f"without bounds: {fault}"
@@ -218,9 +248,16 @@ def _explanation(model: Subject, source: Source) -> Explanation:
         constraints=model.constraints(),
         program=program,
         note=note,
-        model_file=ExplainedFile(model.given.name, sha256_of_file(model.path)),
+        model_file=ExplainedFile(model.source.name, _sum_of_judged(model)),
         certificate_file=ExplainedFile(source.name, source.sha256()),
     )
+
+
+def _sum_of_judged(model: ReadModel) -> str | None:
+    """The SHA-256 of the text that was judged: the file's own, or that of the text made of it."""
+    if model.path == model.source.path:
+        return model.source.sha256()
+    return sha256_of_file(model.path)
 
 
 def figures(model: GivenModel, *, objective: int = 0, bridge: str = "") -> Report:
@@ -236,7 +273,7 @@ def figures(model: GivenModel, *, objective: int = 0, bridge: str = "") -> Repor
     """
     call = ReportedCall(FRONT)
     with _opened_model(call, model, bridge) as opened:
-        stats = ModelStatistics(opened.subject, str(objective))
+        stats = ModelStatistics(opened.model, objective)
         return call.report("stats", stats.lines(), stats=stats.values())
 
 
@@ -260,19 +297,19 @@ class OpenedModel(NamedTuple):
 
     Attributes:
         call: The call.
-        subject: The model with the proved program's calls that are about it.
+        model: The model with the proved program's calls that are about it.
         workspace: Room for files.
     """
 
     call: ReportedCall
-    subject: Subject
+    model: ReadModel
     workspace: Workspace
 
     def read_certificate(self, certificate: Path) -> Source:
         """A certificate, packed or a stream as a model may be."""
         source = read_source(os.fspath(certificate), self.workspace)
         self.call.read_certificate(source)
-        self.subject.bridge.file_names[source.path] = source.name
+        self.model.bridge.file_names[source.path] = source.name
         return source
 
 
@@ -372,7 +409,7 @@ def _opened_model(call: ReportedCall, model: GivenModel, bridge: str) -> Iterato
     with opened_bridge(call, bridge) as (program, workspace):
         source = read_given_model(model, workspace)
         call.read_model(source)
-        yield OpenedModel(call, subject_of(program, workspace, source), workspace)
+        yield OpenedModel(call, read_program(program, workspace, source), workspace)
 
 
 def _solved(

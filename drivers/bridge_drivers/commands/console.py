@@ -9,8 +9,8 @@ from __future__ import annotations
 
 import contextlib
 import enum
-import errno
 import gc
+import io
 import logging
 import os
 import sys
@@ -20,7 +20,8 @@ from typing import Callable, Iterator, NoReturn, Sequence, TextIO
 from ..program.verdict import statement_of
 from ..system.codes import ExitStatus
 from ..system.progress import Progress
-from ..system.signals import SIGNALS, Interrupted
+from ..system.errors import BrokenOutput, Interrupted
+from ..system.signals import SIGNALS
 from ..system.text import cut_to_width, printable
 
 PROVED = ("yes ", "proved")  # verdicts of `check` and `prove` that are settled
@@ -33,18 +34,6 @@ EVERY_SECONDS = 0.5  # between two of its states
 LINE_SECONDS = 5.0  # between two lines of progress where there is no terminal
 CLEAR_LINE = "\r\x1b[K"
 COLUMNS = 80  # of a terminal that does not tell its own
-
-
-class BrokenOutput(BaseException):
-    """Standard output takes no more: a closed pipe, a full disk. No `except Exception` stops it.
-
-    Attributes:
-        is_closed: Whoever read it has gone, which nobody has to be told.
-    """
-
-    def __init__(self, fault: OSError) -> None:
-        super().__init__(fault.strerror or str(fault))
-        self.is_closed = fault.errno == errno.EPIPE
 
 
 class Destination(enum.Enum):
@@ -78,6 +67,11 @@ class Console:
         self._output = output
         self._errors = errors
         self.destination = Destination.OUTPUT
+
+    @classmethod
+    def of_this_process(cls) -> Console:
+        """On the standard streams, as they are now."""
+        return cls(sys.stdout, sys.stderr)
 
     # messages -------------------------------------------------------------------------------
 
@@ -299,7 +293,7 @@ def _standard_console() -> Console:
         if hasattr(stream, "reconfigure"):
             is_utf8 = stream.encoding.lower() == "utf-8"
             stream.reconfigure(errors="surrogateescape" if is_utf8 else "backslashreplace")
-    return Console(sys.stdout, sys.stderr)
+    return Console.of_this_process()
 
 
 def _open_closed_streams() -> None:
@@ -311,8 +305,12 @@ def _open_closed_streams() -> None:
         if stream is None:
             nowhere = os.open(os.devnull, os.O_WRONLY if number == 2 else os.O_RDONLY)
             os.dup2(nowhere, number)  # children have it too
-    sys.stdout = sys.stdout or open(1, "w", encoding="utf-8", closefd=False)
-    sys.stderr = sys.stderr or open(2, "w", encoding="utf-8", closefd=False)
+    sys.stdout = sys.stdout or _text_stream(1)
+    sys.stderr = sys.stderr or _text_stream(2)
+
+
+def _text_stream(number: int) -> TextIO:
+    return io.TextIOWrapper(io.FileIO(number, "wb", closefd=False), encoding="utf-8")
 
 
 def _lead_output_nowhere() -> None:

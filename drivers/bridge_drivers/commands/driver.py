@@ -34,7 +34,7 @@ from ..system.errors import (
     RunInterrupted,
     WrongOption,
 )
-from ..system.signals import Interrupted
+from ..system.errors import Interrupted
 from ..system.version import VERSION
 from .console import Console, Destination, run_command
 from .minizinc import tell_minizinc
@@ -110,7 +110,7 @@ class DriverCommand:
         self.has_sol = False
         self._bridge_words: Sequence[str] = ()
         self._given_console = console
-        self.console = console or Console(sys.stdout, sys.stderr)
+        self.console = console or Console.of_this_process()
 
     def _new_options(self) -> OptionValues:
         own = own_options(self.solver.name)
@@ -124,7 +124,7 @@ class DriverCommand:
         With json=1 what it tells goes into an object on standard output, also where other words are
         wrong, and what else it prints nowhere, or to standard error.
         """
-        self.console = self._given_console or Console(sys.stdout, sys.stderr)
+        self.console = self._given_console or Console.of_this_process()
         self.call = parse_driver_call(argv)
         if self.call.help_kind is not None:
             self.console.output(self.help_text(self.call.help_kind, self.call.help_topic))

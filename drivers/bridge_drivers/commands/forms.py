@@ -251,15 +251,18 @@ def help_of(word: str) -> str:
     for number, form in enumerate(forms):
         head = "usage: " if number == 0 else " " * len("usage: ")
         text += _wrapped(form.sentence(), f"{head}{NAME} {form.call()}  ", USAGE_COLUMNS)
-    options = {option.words: option.text for form in forms for option in form.options}
-    if options:
-        text += "\noptions:\n"
-        text += "".join(_wrapped(said, f"  {o}", OPTION_COLUMNS) for o, said in options.items())
-    text += "\n"
+    text += _options_text(forms) + "\n"
     if any("MODEL" in form.rest for form in forms):
         text += _wrapped(MODEL, "", 0)
     examples = "".join(f"example: {NAME} {form.example}\n" for form in forms if form.example)
     return text + _status_lines() + examples
+
+
+def _options_text(forms: Iterable[CommandForm]) -> str:
+    """What may stand behind a command; nothing where it takes no options."""
+    options = {option.words: option.text for form in forms for option in form.options}
+    lines = "".join(_wrapped(text, f"  {word}", OPTION_COLUMNS) for word, text in options.items())
+    return "\noptions:\n" + lines if lines else ""
 
 
 def _list_of(forms: Iterable[CommandForm]) -> str:

@@ -55,31 +55,37 @@ def parse_front_call(words: Sequence[str]) -> FrontCall:
     """
     call = FrontCall()
     plain: List[str] = []
-    said = set()
     left = list(words)[::-1]
     while left:
         word = left.pop()
         if word == "--":
             plain += left[::-1]
             break
-        if word in HELP_WORDS:
-            call.wants_help = True
-        elif word in VERSION_WORDS:
+        if word in VERSION_WORDS:
             plain = plain or ["version"]
-        elif word in (forms.JSON.words, forms.OVERWRITE.words):
-            said.add(word)
-        elif word.partition("=")[0] in PAGE_OPTIONS:
-            _take_page(call, word, left)
-        elif word.startswith("-") and not is_stream(word):
-            raise wrong_words(f"unknown option {word}", word, (*PAGE_OPTIONS, "--help"))
-        else:
+        elif not _take_option(call, word, left):
             plain.append(word)
     call.word = plain[0] if plain else ""
     call.rest = plain[1:]
-    call.wants_json = forms.JSON.words in said
-    call.overwrites = forms.OVERWRITE.words in said
-    _check_options(call, [*sorted(said), *(f"--{name}" for name in call.pages)])
+    _check_options(call)
     return call
+
+
+def _take_option(call: FrontCall, word: str, left: List[str]) -> bool:
+    """Whether a word is an option, which is taken with the word of its value."""
+    if word in HELP_WORDS:
+        call.wants_help = True
+    elif word == forms.JSON.words:
+        call.wants_json = True
+    elif word == forms.OVERWRITE.words:
+        call.overwrites = True
+    elif word.partition("=")[0] in PAGE_OPTIONS:
+        _take_page(call, word, left)
+    elif word.startswith("-") and not is_stream(word):
+        raise wrong_words(f"unknown option {word}", word, (*PAGE_OPTIONS, "--help"))
+    else:
+        return False
+    return True
 
 
 def _take_page(call: FrontCall, word: str, left: List[str]) -> None:
@@ -92,8 +98,12 @@ def _take_page(call: FrontCall, word: str, left: List[str]) -> None:
     call.pages[name[2:]] = path
 
 
-def _check_options(call: FrontCall, said: Sequence[str]) -> None:
+def _check_options(call: FrontCall) -> None:
     """Whether the command takes the options that were said; with help any will do."""
+    said = [forms.JSON.words] if call.wants_json else []
+    if call.overwrites:
+        said.append(forms.OVERWRITE.words)
+    said += [f"--{name}" for name in call.pages]
     taken = forms.options_of(call.word)
     unfit = [option for option in said if option not in taken]
     if unfit and not call.wants_help:

@@ -148,24 +148,15 @@ def _any_driver() -> DriverCommand:
 
 
 def _print_report(call: FrontCall, console: Console) -> int:
-    """A report, as text or as JSON; a fault stands on standard error too, but what explain is about is its answer."""
-    error = ""
+    """Makes a report and prints it, as text or as JSON; the exit status."""
     try:
         report = REPORTS[call.word](call)
-    except BridgeError as fault:
-        if fault.report is None:
+    except BridgeError as error:
+        if error.report is None:
             raise
-        report = fault.report
-        error = report.text
-    is_answer = call.word == "explain" and report.status == ExitStatus.REFUSED
-    if error and (call.wants_json or not is_answer):
-        console.error(f"{NAME}: {error}")
+        return _print_failure(call, error.report, console)
     if call.wants_json:
         console.output(report.json() + "\n")
-    elif error:
-        if is_answer:
-            more = report.refusal["more"] if report.refusal else []
-            console.lines([error, *(f"  {line}" for line in more)])
     elif call.word == "verify":
         for note in report.lines[:-1]:
             console.error(f"{NAME}: {note}")
@@ -175,6 +166,22 @@ def _print_report(call: FrontCall, console: Console) -> int:
         console.lines(report.lines[1:])
     else:
         console.lines(report.lines)
+    return report.status
+
+
+def _print_failure(call: FrontCall, report: Report, console: Console) -> int:
+    """Why there is no report stands on standard error, also beside JSON.
+
+    What explain is about, that a model is refused, is its answer: it stands on standard output.
+    """
+    is_answer = call.word == "explain" and report.status == ExitStatus.REFUSED
+    if call.wants_json or not is_answer:
+        console.error(f"{NAME}: {report.text}")
+    if call.wants_json:
+        console.output(report.json() + "\n")
+    elif is_answer:
+        more = report.refusal["more"] if report.refusal else []
+        console.lines([report.text, *(f"  {line}" for line in more)])
     return report.status
 
 
@@ -191,7 +198,7 @@ def _explained(call: FrontCall) -> Report:
         return api.explain(rest[0])
     if NUMBER.fullmatch(rest[1]):
         return api.explain(rest[0], objective=int(rest[1]))
-    return api.explain(
+    return api.explanation_report(
         rest[0],
         rest[1],
         html=call.pages.get("html", ""),

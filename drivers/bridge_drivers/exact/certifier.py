@@ -60,7 +60,8 @@ def certify(
         The first evidence that is proved, else why nothing is.
     """
     deadline = deadline or SearchDeadline()
-    deadline.on_progress = on_progress
+    if on_progress is not None:
+        deadline.on_progress = on_progress
     store = EvidenceStore(program, judge, options.objective, deadline)
     task = CertificationTask(program, store, deadline, options, answer, pool)
     return Certifier(task).certify(claim)

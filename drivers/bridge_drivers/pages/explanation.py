@@ -181,7 +181,11 @@ class Explanation:
         return WrittenPages(lines, are_all_written)
 
     def _sums_of_files(self) -> Sequence[Tuple[str, str]]:
-        return (
-            ("model's sum", f"SHA-256 {self.model_file.sha256}"),
-            ("certificate's sum", f"SHA-256 {self.certificate_file.sha256}"),
-        )
+        files = (("model's sum", self.model_file), ("certificate's sum", self.certificate_file))
+        return [
+            (
+                head,
+                f"SHA-256 {file.sha256}" if file.sha256 else "not known: another file stands there",
+            )
+            for head, file in files
+        ]

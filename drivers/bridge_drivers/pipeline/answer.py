@@ -13,7 +13,7 @@ from ..system.codes import Code
 from ..model.analysis import NO_RESIDUAL, Residual, residual_of, worst_residual
 from ..model.linear_program import LinearProgram, ObjectiveTerms
 from ..solvers.base import SolverAnswer, SolverStatus
-from ..formats.numbers import Number, decimals, nearest_double, require_finite
+from ..formats.numbers import Number, decimals, nearest_double, read_fraction, require_finite
 from .settings import Settings
 
 NEAR_WHOLE = 1e-5  # from a whole number: so near, a value of an integer column is meant to be it
@@ -255,10 +255,10 @@ class Answer:
 
 def exact_reduced_costs(program: LinearProgram, duals: Sequence[Fraction]) -> list[Fraction]:
     """What duals, one for each row, leave of the costs: c - A'y."""
-    numbers = list(map(Fraction, map(bytes.decode, program.written.numbers)))
+    numbers = list(map(read_fraction, program.written.numbers))
     costs = [Fraction(0)] * len(program.names.columns)
     for column, text in program.cost_texts.items():
-        costs[column] = Fraction(text.decode())
+        costs[column] = read_fraction(text)
     written = program.written
     places = (written.entry_rows, written.entry_columns, written.entry_numbers)
     for row, column, number in zip(*(part.tolist() for part in places)):

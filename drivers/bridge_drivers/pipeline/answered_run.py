@@ -21,7 +21,7 @@ from ..system.errors import (
     UnclearAnswer,
     UnusableAnswer,
 )
-from ..system.signals import Interrupted
+from ..system.errors import Interrupted
 from .answer import Answer
 from .certification import AnswerCertifier, Returned
 from .monitor import LOGGER

@@ -35,9 +35,7 @@ class WholeForm(NamedTuple):
     factors: Dict[int, int]
 
 
-def factors_of(
-    bridge: Bridge, nl: str, rows: Sequence[str], objective: str = "0"
-) -> Dict[str, str]:
+def factors_of(bridge: Bridge, nl: str, rows: Sequence[str], objective: int = 0) -> Dict[str, str]:
     """By name of an exported row what it was multiplied by, as a text.
 
     The proved program is asked only where the file divides: else no row is multiplied.

@@ -9,7 +9,7 @@ from __future__ import annotations
 from typing import Collection, Dict, List
 
 from ..formats.names import NameLists, numbered_name
-from ..inputs import Subject
+from .read_model import ReadModel
 from ..model.analysis import (
     COLUMN_KINDS,
     Exact,
@@ -29,7 +29,7 @@ SIGNS = {"L": "<=", "G": ">=", "E": "="}
 class ModelStatistics:
     """Of an .nl file, or of an MPS file's own program."""
 
-    def __init__(self, model: Subject, objective: str = "0") -> None:
+    def __init__(self, model: ReadModel, objective: int = 0) -> None:
         """Refused where there is no program.
 
         Args:

@@ -4,11 +4,15 @@ from __future__ import annotations
 
 import math
 import time
+
 from .errors import DeadlineExceeded
 
 
 class Deadline:
     """The moment at which some work has to end. One goes through a whole run.
+
+    Args:
+        limit: Seconds that the work has; infinite where it has no end.
 
     Attributes:
         seconds: How long the work has; infinite where it has no end.
@@ -16,16 +20,16 @@ class Deadline:
             does not end a short piece of work early.
     """
 
-    def __init__(self, seconds: float = math.inf, *, of_processor: bool = False) -> None:
-        self.seconds = seconds
+    def __init__(self, limit: float = math.inf, *, of_processor: bool = False) -> None:
+        self.seconds = limit
         self.of_processor = of_processor
         self._clock = time.process_time if of_processor else time.monotonic
         self._start = self._clock()
 
     @classmethod
-    def of_limit(cls, seconds: float) -> Deadline:
-        """The deadline of an option, in which 0 stands for no limit."""
-        return cls(seconds or math.inf)
+    def of_limit(cls, limit: float) -> Deadline:
+        """The deadline of an option in seconds, in which 0 stands for no limit."""
+        return cls(limit or math.inf)
 
     def spent(self) -> float:
         """Seconds since its start."""
@@ -54,6 +58,6 @@ class Deadline:
         """The seconds count from now on."""
         self._start = self._clock()
 
-    def within(self, seconds: float) -> Deadline:
+    def within(self, limit: float) -> Deadline:
         """One that ends with this one, and at most so many seconds from now."""
-        return Deadline(min(seconds, self.left()), of_processor=self.of_processor)
+        return Deadline(min(limit, self.left()), of_processor=self.of_processor)

@@ -2,12 +2,14 @@
 
 Each class carries the values that it is about and makes its text of them, so that a caller can
 tell errors apart without reading sentences. Each knows the exit status of a command that ends by
-it; AMPL's code of each is decided by `ruling.code_of_error`.
+it; AMPL's code of each is decided by `pipeline.outcome.code_of_error`. Two more end a command whatever it is at, and no
+`except Exception` stops them: `Interrupted` and `BrokenOutput`.
 """
 
 from __future__ import annotations
 
 import enum
+import errno
 from typing import Any
 
 from .codes import ExitStatus
@@ -295,3 +297,27 @@ class SolveInterrupted(KeyboardInterrupt):
     def __init__(self, report: Any) -> None:
         super().__init__(report.text)
         self.report = report
+
+
+class Interrupted(BaseException):
+    """A signal ended the run."""
+
+    def __init__(self, number: int) -> None:
+        super().__init__(number)
+        self.number = number
+
+    def status(self) -> int:
+        """The exit status of a process that a signal ended, as a shell tells it."""
+        return 128 + self.number
+
+
+class BrokenOutput(BaseException):
+    """Standard output takes no more: a closed pipe, a full disk.
+
+    Attributes:
+        is_closed: Whoever read it has gone, which nobody has to be told.
+    """
+
+    def __init__(self, fault: OSError) -> None:
+        super().__init__(fault.strerror or str(fault))
+        self.is_closed = fault.errno == errno.EPIPE

@@ -97,18 +97,13 @@ def run(
     memory = _Memory(limits.memory_bytes)
     errors = _Memory(limits.memory_bytes)
     lines = _Lines(on_line, limits.line_bytes)
-    with contextlib.ExitStack() as stack:
-        sinks: List[Sink] = [memory.add, lines.add]
-        if log is not None:
-            sinks.append(_Log(stack.enter_context(new_file(log)), limits.log_bytes).add)
-        stack.enter_context(SIGNALS.deferred())
+    with _open_log(log, limits) as to_log, SIGNALS.deferred():
         child = _started(argv, streams, folder)
         with _ended_at_last(child):
-            readers = []
-            if child.stdout is not None:
-                readers.append(_Reader(child.stdout, sinks))
-            if child.stderr is not None:
-                readers.append(_Reader(child.stderr, [errors.add]))
+            readers = [
+                *_readers_of(child.stdout, [memory.add, lines.add, *to_log]),
+                *_readers_of(child.stderr, [errors.add]),
+            ]
             with _interrupts_to(child, on_interrupt), SIGNALS.delivered():
                 is_late = _follow(child, readers, deadline)
                 lines.end()
@@ -120,6 +115,21 @@ def signal_group(child: subprocess.Popen[bytes], number: int) -> None:
     """Sends a signal to a process that was not waited for, and to all that it started."""
     with contextlib.suppress(ProcessLookupError, PermissionError):
         os.killpg(child.pid, number)
+
+
+@contextlib.contextmanager
+def _open_log(path: Optional[str], limits: OutputLimits) -> Iterator[List[Sink]]:
+    """What writes a log, in a block; nothing where none is wanted."""
+    if path is None:
+        yield []
+        return
+    with new_file(path) as file:
+        yield [_Log(file, limits.log_bytes).add]
+
+
+def _readers_of(stream: Optional[IO[bytes]], sinks: Sequence[Sink]) -> List[_Reader]:
+    """What reads a stream; nothing where it is not this process that reads it."""
+    return [] if stream is None else [_Reader(stream, sinks)]
 
 
 def _started(
@@ -204,14 +214,17 @@ def _follow(child: subprocess.Popen[bytes], readers: Sequence[_Reader], deadline
                 is_late = True
                 signal_group(child, signal.SIGKILL)
             pause = math.inf if is_late else max(deadline.left(), 0.0)
-            if notice is None:
-                pause = min(pause, POLL)
-            for key, _ in selector.select(None if pause == math.inf else pause):
-                if key.data is not None and key.data.read() == 0:
-                    selector.unregister(key.fileobj)
+            _read_what_is_there(selector, pause if notice is not None else min(pause, POLL))
     for reader in readers:
         reader.drain()
     return is_late
+
+
+def _read_what_is_there(selector: selectors.BaseSelector, pause: float) -> None:
+    """Reads each stream that has something, waiting so many seconds for one that has."""
+    for key, _ in selector.select(None if pause == math.inf else pause):
+        if key.data is not None and key.data.read() == 0:
+            selector.unregister(key.fileobj)
 
 
 @contextlib.contextmanager
@@ -242,7 +255,8 @@ class _Reader:
     def __init__(self, stream: IO[bytes], sinks: Sequence[Sink]) -> None:
         self.number = stream.fileno()
         self.sinks = sinks
-        os.set_blocking(self.number, False)
+        waits = False
+        os.set_blocking(self.number, waits)
 
     def read(self) -> Optional[int]:
         """How many bytes came: 0 at the end, None where nothing is there now."""

@@ -7,24 +7,14 @@ import signal
 import threading
 from typing import Callable, Iterator, Sequence
 
+from .errors import Interrupted
+
 # what ends a run in order; a system may lack some
 HANDLED_SIGNALS: Sequence[signal.Signals] = [
     getattr(signal, name)
     for name in ("SIGTERM", "SIGINT", "SIGHUP", "SIGQUIT")
     if hasattr(signal, name)
 ]
-
-
-class Interrupted(BaseException):
-    """A signal ended the run. No `except Exception` stops it."""
-
-    def __init__(self, number: int) -> None:
-        super().__init__(number)
-        self.number = number
-
-    def status(self) -> int:
-        """The exit status of a process that a signal ended, as a shell tells it."""
-        return 128 + self.number
 
 
 class SignalGate:
@@ -65,14 +55,14 @@ class SignalGate:
 
     def deferred(self) -> contextlib.AbstractContextManager[None]:
         """A block that no signal breaks off: what comes in it is delivered at its end."""
-        return self._deferring(True)
+        return self._deferring(is_deferring=True)
 
     def delivered(self) -> contextlib.AbstractContextManager[None]:
         """A block inside a deferred one in which signals are delivered again."""
-        return self._deferring(False)
+        return self._deferring(is_deferring=False)
 
     @contextlib.contextmanager
-    def _deferring(self, is_deferring: bool) -> Iterator[None]:
+    def _deferring(self, *, is_deferring: bool) -> Iterator[None]:
         before = self.is_deferring
         self.is_deferring = is_deferring
         self.deliver_pending()

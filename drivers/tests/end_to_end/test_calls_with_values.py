@@ -182,3 +182,12 @@ def test_no_function_hides_a_package() -> None:
         env={**os.environ, "PYTHONPATH": str(DRIVERS)},
     )
     assert done.returncode == 0 and done.stdout.startswith("<function solve")
+
+
+@NEEDS
+def test_a_page_that_cannot_be_written(in_folder: Workspace) -> None:
+    in_folder.copy_files(EXAMPLES)
+    with pytest.raises(FileFault, match="is not written") as caught:
+        explain("knap", "knap.certificate", html="no/such/folder.html")
+    report = caught.value.report
+    assert (report.status, report.claim) == (5, "optimal")

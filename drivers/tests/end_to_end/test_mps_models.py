@@ -15,7 +15,7 @@ from bridge_drivers.program.mps_forms import lists_of_names, read_mps_text
 from bridge_drivers.program.refusal import Refusal
 from builders.mps_models import MPS_MODELS, READ_IN_BOTH_FORMS
 from builders.plain_mps import Plain, random_text
-from running.places import SOLVERS, program
+from running.places import DATA, SOLVERS, program
 from running.workspace import Workspace
 
 FIXED = MPS_MODELS["fixed"].text
@@ -190,3 +190,18 @@ def test_one_that_judges_no_mps_files(workspace: Workspace) -> None:
         "nl-bridge", "verify", "m.mps", "m.certificate", environment={"BRIDGE": str(bridge)}
     )
     assert "this bridge does not know the command `verify_mps` (bad words)" in ended.err
+
+
+@pytest.mark.needs("mps")
+def test_import_against_the_program(workspace: Workspace) -> None:
+    """The kinds of columns of the .nl are those of the names beside it, and so are the bounds."""
+    workspace.write("m.mps", (DATA / "mps" / "kinds.mps").read_bytes())
+    ended = workspace.run("nl-bridge", "import", "m.mps", "m.nl")
+    told = "m.nl is written, with the names of 2 constraints and 6 variables in m.row and m.col\n"
+    assert (ended.status, ended.text) == (0, told)
+    lines = workspace.read("m.nl").decode().split("\n")
+    assert lines[6].split()[:2] == ["2", "2"]
+    at = lines.index("b") + 1
+    assert lines[at : at + 6] == ["2 0", "2 0", "0 0 1", "0 0 1", "0 0 9", "1 -1"]
+    names = workspace.read("m.col").decode().split()
+    assert names == ["c", "'MARKER'", "b", "v", "i", "low"]

@@ -19,7 +19,8 @@ from bridge_drivers.exact.evidence import AnswerClaim  # noqa: E402
 from bridge_drivers.exact.search_deadline import SearchDeadline  # noqa: E402
 from bridge_drivers.exact.worker_pools import ProcessPool, UnitResult, WorkUnit  # noqa: E402
 from bridge_drivers.model.integer_form import IntegerProgram  # noqa: E402
-from bridge_drivers.system.signals import SIGNALS, Interrupted, interrupts_to  # noqa: E402
+from bridge_drivers.system.errors import Interrupted  # noqa: E402
+from bridge_drivers.system.signals import SIGNALS, interrupts_to  # noqa: E402
 from judging import Judge  # noqa: E402
 from programs import Column, Row, program  # noqa: E402
 

@@ -15,13 +15,13 @@ from unittest import mock
 import pytest
 from bridge_drivers.commands import console as console_module
 from bridge_drivers.commands.console import (
-    BrokenOutput,
     Colour,
     Console,
     Destination,
     ProgressLine,
     colour_of,
 )
+from bridge_drivers.system.errors import BrokenOutput
 from bridge_drivers.system.progress import Progress
 from running.places import DRIVERS
 from running.terminal import open_terminal

@@ -122,18 +122,18 @@ def test_intervals_that_are_refuted_are_empty(p: IntegerProgram) -> None:
 @pytest.mark.parametrize(
     "columns, rows, form, floor",
     [
-        ([Column("0.2", "0.8", True)], [], {0: 1}, 0),
-        ([Column("-0.8", "-0.2", True)], [], {0: 1}, -1),
-        ([Column(0, 5, True)], [Row("1.2", "1.8", {0: 1})], {0: 1}, 1),
-        ([Column(2, 5, True)], [Row(None, "2.5", {0: 2})], {0: 1}, 1),
+        ([Column("0.2", "0.8", is_integer=True)], [], {0: 1}, 0),
+        ([Column("-0.8", "-0.2", is_integer=True)], [], {0: 1}, -1),
+        ([Column(0, 5, is_integer=True)], [Row("1.2", "1.8", {0: 1})], {0: 1}, 1),
+        ([Column(2, 5, is_integer=True)], [Row(None, "2.5", {0: 2})], {0: 1}, 1),
         (
-            [Column(0, 5, True), Column(0, 5, True)],
+            [Column(0, 5, is_integer=True), Column(0, 5, is_integer=True)],
             [Row("2.5", None, {0: 1, 1: 1}), Row(None, "5.6", {0: 2, 1: 2})],
             {0: 1, 1: 1},
             2,
         ),
         (
-            [Column(0, 5, True), Column(0, 5, True)],
+            [Column(0, 5, is_integer=True), Column(0, 5, is_integer=True)],
             [Row("2.2", "2.8", {0: 1, 1: 2})],
             {0: 1, 1: 2},
             2,
@@ -152,10 +152,13 @@ def test_empty_intervals_by_hand(columns, rows, form, floor) -> None:
 @pytest.mark.parametrize(
     "columns, rows",
     [
-        ([Column("0.2", "1.8", True)], []),
+        ([Column("0.2", "1.8", is_integer=True)], []),
         ([Column("0.2", "0.8")], []),
-        ([Column(0, 5, True), Column(0, 5)], [Row("2.2", "2.8", {0: 1, 1: 1})]),
-        ([Column(0, 5, True), Column(0, 5, True)], [Row("2.2", "3.2", {0: 1, 1: 2})]),
+        ([Column(0, 5, is_integer=True), Column(0, 5)], [Row("2.2", "2.8", {0: 1, 1: 1})]),
+        (
+            [Column(0, 5, is_integer=True), Column(0, 5, is_integer=True)],
+            [Row("2.2", "3.2", {0: 1, 1: 2})],
+        ),
     ],
 )
 def test_intervals_that_are_not_empty(columns, rows) -> None:

@@ -23,8 +23,8 @@ def mixed() -> IntegerProgram:
     """max x + 2 y: a free x, integers y up to 2.5 and z up to 3."""
     columns = [
         Column(None, None, cost=1),
-        Column(0, "2.5", True, cost=2),
-        Column(0, 3, True),
+        Column(0, "2.5", is_integer=True, cost=2),
+        Column(0, 3, is_integer=True),
     ]
     rows = [Row(None, 3, {0: "1.5", 1: 2, 2: -1}), Row(1, 5, {1: 2, 2: 4})]
     return program(columns, rows, "max")

@@ -22,7 +22,9 @@ from programs import Column, Row, program
 
 def test_a_variable_upper_bound() -> None:
     """y <= 10 x and y <= 7 with x binary: y <= 7 x, by the split of -x at -1."""
-    p = program([Column(0, 7, cost=1), Column(0, 1, True)], [Row(None, 0, {0: 1, 1: -10})])
+    p = program(
+        [Column(0, 7, cost=1), Column(0, 1, is_integer=True)], [Row(None, 0, {0: 1, 1: -10})]
+    )
     assert variable_bounds(p) == {0: [(10.0, 1, 0, 1.0)]}
     substitutions = Substitutions(p, [7.0, 0.7])
     divisor = best_divisor(substitutions, {0: 1.0}, DIVISOR_MULTIPLES)

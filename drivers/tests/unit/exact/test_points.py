@@ -35,7 +35,11 @@ F = Fraction
 def mixed() -> IntegerProgram:
     """max x + 2 y, 3/2 x + 2 y - z <= 3, 1 <= 2 y + 4 z <= 5, y and z whole."""
     return program(
-        [Column(None, None, cost=1), Column(0, "2.5", True, cost=2), Column(0, 3, True)],
+        [
+            Column(None, None, cost=1),
+            Column(0, "2.5", is_integer=True, cost=2),
+            Column(0, 3, is_integer=True),
+        ],
         [Row(None, 3, {0: "1.5", 1: 2, 2: -1}), Row(1, 5, {1: 2, 2: 4})],
         "max",
     )
@@ -135,7 +139,7 @@ def test_integers_far_from_whole_numbers_have_no_point() -> None:
 @NEEDS_CLP
 def test_integers_without_values_of_the_other_columns() -> None:
     p = program(
-        [Column(0, 1), Column(0, 9, True)],
+        [Column(0, 1), Column(0, 9, is_integer=True)],
         [Row(7, None, {0: 1, 1: 1})],
     )
     assert integers_are_infeasible(p, [0.0, 5.0], Deadline())
@@ -145,7 +149,11 @@ def test_integers_without_values_of_the_other_columns() -> None:
 def test_programs_near_an_answer() -> None:
     """Values of more digits than solvers print have room for those."""
     equation = [Row(0, 0, {0: 1, 1: -1})]
-    columns = [Column(0, 10**9, True, cost=1), Column(0, 10**9, True), Column(0, 9)]
+    columns = [
+        Column(0, 10**9, is_integer=True, cost=1),
+        Column(0, 10**9, is_integer=True),
+        Column(0, 9),
+    ]
     p = program(columns, equation)
     near = restricted_to(p, [12345678.0, 3.0, 1.0], frees_equations=False)
     assert (near.lower[0], near.upper[0]) == (12345678 - 124, 12345678 + 124)
@@ -165,12 +173,15 @@ def test_programs_near_an_answer() -> None:
 )
 def test_residuals_of_integer_columns(side: str, is_missed: bool) -> None:
     """1 + 2 >= side: what is missed by more than 1e-12 is no rounding."""
-    p = program([Column(0, 9, True), Column(0, 9, True)], [Row(side, None, {0: 1, 1: 1})])
+    p = program(
+        [Column(0, 9, is_integer=True), Column(0, 9, is_integer=True)],
+        [Row(side, None, {0: 1, 1: 1})],
+    )
     assert (integer_residual(p, [1.0, 2.0]) > F(1, 10**12)) is is_missed
 
 
 def test_residuals_of_bounds_and_of_other_rows() -> None:
-    p = program([Column(0, 4, True), Column(0, 4)], [Row(9, None, {0: 1, 1: 1})])
+    p = program([Column(0, 4, is_integer=True), Column(0, 4)], [Row(9, None, {0: 1, 1: 1})])
     assert integer_residual(p, [4.0, 0.0]) == 0  # the row has a column that is not integer
     assert integer_residual(p, [5.0, 0.0]) == F(1, 5)
 

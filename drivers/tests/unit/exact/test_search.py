@@ -13,7 +13,6 @@ from hypothesis import given, settings
 from hypothesis import strategies as st
 
 from bridge_drivers.exact import search as search_module
-from bridge_drivers.exact import work_limit
 from bridge_drivers.exact.clp import library
 from bridge_drivers.exact.fathoming import Cutoff
 from bridge_drivers.exact.node import DOWN, UP, Branch, Node, OpenNode, ProvedSubtree, join
@@ -21,8 +20,10 @@ from bridge_drivers.exact.node import least_open_bound
 from bridge_drivers.exact.portfolio import PLAIN, Portfolio
 from bridge_drivers.exact.search import BranchAndBound, ImprovedIncumbent, no_point
 from bridge_drivers.exact.search_deadline import SearchDeadline
+from bridge_drivers.exact.work_limit import limit_work
 from bridge_drivers.exact.tree import EmptyDomain, Leaf, Split, Tree, node_count
 from bridge_drivers.model.integer_form import IntegerProgram
+from bridge_drivers.system.deadline import Deadline
 from bridge_drivers.system.errors import NodeLimit, SearchEnded, TimeOver
 from integer_programs import COVER, EQUATION, KNAPSACK, KNAPSACKS, boxed_programs, optimum_of
 from judging import Judge
@@ -152,8 +153,10 @@ def test_time_that_is_over_anywhere(p: IntegerProgram) -> None:
         portfolio = Portfolio(p, value, no_point, SearchDeadline(60.0))
         strategy = portfolio.begin(PLAIN)
         over = mock.Mock(is_over=lambda: next(looks) >= last)
-        with mock.patch.object(work_limit, "_deadline", over), contextlib.suppress(TimeOver):
+        limit_work(over)
+        with contextlib.suppress(TimeOver):
             portfolio.resume(strategy, 60.0)
+        limit_work(Deadline())
         if strategy.tree is not None:
             break
         found = portfolio.prove_bound()

@@ -46,7 +46,7 @@ def test_a_search_pauses_and_ends() -> None:
         with pytest.raises(SearchEnded, match="interrupted"):
             deadline.check_search(3, 60.0)
         assert deadline.why("time") == "interrupted"
-        assert work_limit._deadline.left() <= 1.0
+        assert work_limit._deadline.get().left() <= 1.0
     finally:
         limit_work(Deadline())
 

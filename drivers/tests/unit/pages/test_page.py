@@ -107,5 +107,13 @@ def test_many_rows_that_leaves_use() -> None:
     assert "and 5 rows more" in explained.html_page()
 
 
+def test_a_file_that_was_replaced_has_no_sum() -> None:
+    explained = explanation("knap", KNAP, "optimal 17")
+    explained.model_file = explained.model_file._replace(sha256=None)
+    page = explained.html_page()
+    assert "<td>not known: another file stands there</td>" in page
+    assert "SHA-256 " + "2" * 64 in page
+
+
 def test_sentences() -> None:
     assert as_sentence("it is so") == "It is so."

@@ -15,7 +15,8 @@ import pytest
 from bridge_drivers.system import processes
 from bridge_drivers.system.deadline import Deadline
 from bridge_drivers.system.processes import OutputLimits, Streams, run
-from bridge_drivers.system.signals import Interrupted, SignalGate
+from bridge_drivers.system.errors import Interrupted
+from bridge_drivers.system.signals import SignalGate
 from hypothesis import given
 from hypothesis import strategies as st
 

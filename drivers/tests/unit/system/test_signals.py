@@ -5,7 +5,8 @@ from __future__ import annotations
 import signal
 
 import pytest
-from bridge_drivers.system.signals import Interrupted, SignalGate
+from bridge_drivers.system.errors import Interrupted
+from bridge_drivers.system.signals import SignalGate
 
 
 @pytest.mark.parametrize(
