@@ -39,7 +39,11 @@ def test_small_programs(p: IntegerProgram) -> None:
     assert found.certificate is not None and found.certificate.startswith(b"certificate 1\n")
 
 
-@pytest.mark.parametrize("p", [KNAPSACK, EQUATION, COVER, KNAPSACKS], ids=str)
+@pytest.mark.parametrize(
+    "p",
+    [KNAPSACK, EQUATION, COVER, KNAPSACKS],
+    ids=["knapsack", "equation", "cover", "knapsacks"],
+)
 @pytest.mark.parametrize("claim", [AnswerClaim.UNKNOWN, AnswerClaim.INFEASIBLE_OR_UNBOUNDED])
 def test_claims_that_do_not_hold(p: IntegerProgram, claim: AnswerClaim) -> None:
     """Whatever a solver says, what is told is what is true."""

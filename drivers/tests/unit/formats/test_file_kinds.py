@@ -31,7 +31,7 @@ FIXED = b"NAME          P\nROWS\n"
         ("m.mps", FIXED, True),
         ("afiro", FIXED, True),
         ("m.MPS", b"", True),
-        ("m.mps.gz", gzip.compress(FIXED), True),
+        ("m.mps.gz", gzip.compress(FIXED, mtime=0), True),
         ("m.mps.gz", b"\x1f\x8b\x08", True),
         ("m.nl", b"g3 1 1\n", False),
         ("m.lp", b"Minimize\n obj: x\n", False),
