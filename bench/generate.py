@@ -30,6 +30,7 @@ from __future__ import annotations
 
 import random
 import sys
+from collections import Counter
 from collections.abc import Callable, Iterable, Iterator
 from itertools import accumulate, chain
 from pathlib import Path
@@ -99,24 +100,38 @@ def rows(variables: int, count: int, per_row: int, form: str = "linear") -> Iter
     defined = count if form == "defined" else 0
     yield header(variables, count, binary, integer, count * per_row, variables, defined)
     for i, row in enumerate(columns[:defined]):
-        terms = "".join(f"{j} {decimal(rnd)}\n" for j in row)
-        yield f"V{variables + i} {len(row)} 0\n{terms}n0\n"
+        yield f"V{variables + i} {len(row)} 0\n{linear_terms(rnd, row)}n0\n"
     for i, row in enumerate(columns):
         yield f"C{i}\n{expression(rnd, row, form, variables + i)}"
-    yield "O0 1\nn12.5\nr\n"
-    for i in range(count):
-        yield (f"1 {per_row * 50}\n", f"2 -{per_row * 50}\n", f"0 -{i % 999} 7\n")[i % 3]
-    yield "b\n"
-    for j in range(variables - binary - integer):
-        yield ("2 0\n", "0 -10 20.5\n", "3\n", "1 100\n")[j % 4]
+    yield "O0 1\nn12.5\n"
+    yield from sides_and_bounds(count, per_row * 50, variables - binary - integer)
     yield "0 0 1\n" * binary + "0 0 40\n" * integer
-    counts = [0] * variables
-    for j in chain.from_iterable(columns):
-        counts[j] += 1
-    yield columns_before(counts)
+    times = Counter(chain.from_iterable(columns))
+    yield columns_before([times[j] for j in range(variables)])
     for i, row in enumerate(columns):
         yield f"J{i} {len(row)}\n" + "".join(f"{j} {factor(rnd, form)}\n" for j in row)
-    yield f"G0 {variables}\n" + "".join(f"{j} {decimal(rnd)}\n" for j in range(variables))
+    yield f"G0 {variables}\n{linear_terms(rnd, range(variables))}"
+
+
+def linear_terms(rnd: random.Random, columns: Iterable[int]) -> str:
+    """A line of a factor for each of these columns."""
+    return "".join(f"{j} {decimal(rnd)}\n" for j in columns)
+
+
+def sides_and_bounds(count: int, most: int, continuous: int) -> Iterator[str]:
+    """The segment r of so many rows, and the lines of the segment b of so many continuous variables, each of several kinds.
+
+    Args:
+        count: How many rows there are.
+        most: The greatest value of a row that is bounded above, the least negated of one that is bounded below.
+        continuous: How many continuous variables there are.
+    """
+    yield "r\n"
+    for i in range(count):
+        yield (f"1 {most}\n", f"2 -{most}\n", f"0 -{i % 999} 7\n")[i % 3]
+    yield "b\n"
+    for j in range(continuous):
+        yield ("2 0\n", "0 -10 20.5\n", "3\n", "1 100\n")[j % 4]
 
 
 def expression(rnd: random.Random, row: list[int], form: str, defined: int) -> str:

@@ -13,6 +13,7 @@ from __future__ import annotations
 import re
 import sys
 from collections.abc import Iterable, Iterator, Mapping
+from pathlib import Path
 from typing import NamedTuple
 
 from shared import TOP, asked, own_uses
@@ -106,41 +107,63 @@ def functions(crate: str, text: str) -> Iterator[Call]:
 
 
 def calls(crates: Iterable[str]) -> Iterator[Call]:
-    """The public calls of crates, by file."""
+    """The public calls of crates, by file; a program, and a crate of tests, has none."""
     for crate in crates:
-        source = TOP / "crates" / crate / "src"
-        root = source / "lib.rt"
-        text = root.read_text() if root.exists() and crate not in TESTS else ""
-        handed, opened = handed_out(text), set(OPENED.findall(text))
-        for path in sorted(source.rglob("*.rt")) if text else ():
-            is_open = (
-                path == root or path.relative_to(source).parts[0].removesuffix(".rt") in opened
-            )
-            yield from (
-                it
-                for it in functions(crate, path.read_text())
-                if is_open or (it.kind or it.word) in handed
-            )
+        root = TOP / "crates" / crate / "src" / "lib.rt"
+        if root.exists() and crate not in TESTS:
+            yield from calls_below(crate, root)
 
 
-def main(words: list[str]) -> int:
-    crates, page = list(own_uses()), PAGE.read_text()
-    tests = {
+def calls_below(crate: str, root: Path) -> Iterator[Call]:
+    """The public calls of the crate with this root file.
+
+    A function is public where its module is (the root itself, or one that the root opens by `pub mod`), or where the root
+    hands out its name or its type.
+    """
+    source = root.parent
+    text = root.read_text()
+    handed = handed_out(text)
+    opened = set(OPENED.findall(text))
+    for path in sorted(source.rglob("*.rt")):
+        module = path.relative_to(source).parts[0].removesuffix(".rt")
+        is_open = path == root or module in opened
+        for it in functions(crate, path.read_text()):
+            if is_open or (it.kind or it.word) in handed:
+                yield it
+
+
+def texts_of_tests() -> dict[str, str]:
+    """The texts of the crates of tests, by the name of the file."""
+    return {
         path.stem: path.read_text()
         for crate in TESTS
         for path in sorted((TOP / "crates" / crate / "src").glob("*.rt"))
     }
+
+
+def untried(crates: Iterable[str], tests: Mapping[str, str]) -> list[Call]:
+    """The calls that may want memory and that neither a test makes nor the page docs/verify/calls.md names."""
+    page = PAGE.read_text()
+    return [
+        it
+        for it in calls(crates)
+        if it.wants_memory and not it.made_in(tests) and f"`{it.name}`" not in page
+    ]
+
+
+def check(crates: Iterable[str], tests: Mapping[str, str]) -> int:
+    """Names the calls that no test makes; the status of the script."""
+    found = untried(crates, tests)
+    for it in found:
+        print(f"{it.crate}: {it.name} may want memory, and no test makes it (docs/verify/calls.md)")
+    return 1 if found else 0
+
+
+def main(words: list[str]) -> int:
+    crates = list(own_uses())
+    tests = texts_of_tests()
     if words == ["--check"]:
-        found = [
-            it
-            for it in calls(crates)
-            if it.wants_memory and not it.made_in(tests) and f"`{it.name}`" not in page
-        ]
-        for it in found:
-            print(
-                f"{it.crate}: {it.name} may want memory, and no test makes it (docs/verify/calls.md)"
-            )
-        return 1 if found else 0
+        return check(crates, tests)
     if unknown := set(words) - set(crates):
         print(f"dev/calls.py: no crate {', '.join(sorted(unknown))}", file=sys.stderr)
         return 3

@@ -11,6 +11,7 @@ from __future__ import annotations
 
 import re
 import sys
+from collections.abc import Iterator
 from functools import lru_cache
 from pathlib import Path
 
@@ -68,26 +69,36 @@ def is_used(entry: Import, words: set[str], body: str) -> bool:
     )
 
 
-def main(arguments: list[str]) -> int:
-    missing = 0
-    for crate in arguments or sorted(path.name for path in CRATES.iterdir() if path.is_dir()):
+def sources(crates: list[str]) -> Iterator[Path]:
+    """The files of code, definitions and proofs of these crates, without what was built."""
+    for crate in crates:
         for path in sorted((CRATES / crate).rglob("*")):
-            if path.suffix not in (".rt", ".antt") or "out" in path.parts:
-                continue
-            text = path.read_text(encoding="utf-8")
-            body = without_imports(text)
-            words = set(APART.split(body))
-            for entry in imports_of(text):
-                place = f"{path.relative_to(TOP)}:{entry.line}"
-                if not is_there(entry):
-                    missing += 1
-                    print(f"{place}: {entry.module} has no {entry.name}")
-                elif (
-                    path.suffix == ".antt"
-                    and not entry.passed_on
-                    and not is_used(entry, words, body)
-                ):
-                    print(f"{place}: {entry.known_as} is not used")
+            if path.suffix in (".rt", ".antt") and "out" not in path.parts:
+                yield path
+
+
+def check(path: Path) -> int:
+    """Names the imports of a file that name nothing, and those that it does not use; how many name nothing.
+
+    What code imports is not looked for in it: the compiler says that.
+    """
+    text = path.read_text(encoding="utf-8")
+    body = without_imports(text)
+    words = set(APART.split(body))
+    missing = 0
+    for entry in imports_of(text):
+        place = f"{path.relative_to(TOP)}:{entry.line}"
+        if not is_there(entry):
+            missing += 1
+            print(f"{place}: {entry.module} has no {entry.name}")
+        elif path.suffix == ".antt" and not entry.passed_on and not is_used(entry, words, body):
+            print(f"{place}: {entry.known_as} is not used")
+    return missing
+
+
+def main(arguments: list[str]) -> int:
+    crates = arguments or sorted(path.name for path in CRATES.iterdir() if path.is_dir())
+    missing = sum(map(check, sources(crates)))
     return 1 if missing else 0
 
 

@@ -232,15 +232,19 @@ def wrong(
         yield from wrong_layers(imports, modules, layers)
 
 
-def main(words: List[str]) -> int:
-    if not words or words[0] in ("-h", "--help"):
-        print(__doc__)
-        return 0 if words else 3
-    folder = Path(words[0]).resolve()
-    given = Path(words[1]) if len(words) > 1 else folder.parent / "layers.txt"
-    if len(words) > 1 and not given.exists():
+def layers_for(folder: Path, named: Optional[str]) -> Optional[Layers]:
+    """The layers of a package: of the file that is named, else of `layers.txt` beside it, else none."""
+    if named is None:
+        beside = folder.parent / "layers.txt"
+        return layers_of(beside) if beside.exists() else None
+    given = Path(named)
+    if not given.exists():
         sys.exit(f"layers: {given}: no such file")
-    layers = layers_of(given) if given.exists() else None
+    return layers_of(given)
+
+
+def check(folder: Path, layers: Optional[Layers]) -> int:
+    """Names what is wrong in a package, and says how much was looked at; the status of the script."""
     modules = modules_of(folder)
     imports = list(dict.fromkeys(imports_of(folder, modules)))
     found = list(wrong(imports, modules, layers))
@@ -253,6 +257,15 @@ def main(words: List[str]) -> int:
         f"the longest chain has {height}; {len(found)} wrong"
     )
     return 1 if found else 0
+
+
+def main(words: List[str]) -> int:
+    if not words or words[0] in ("-h", "--help"):
+        print(__doc__)
+        return 0 if words else 3
+    folder = Path(words[0]).resolve()
+    named = words[1] if len(words) > 1 else None
+    return check(folder, layers_for(folder, named))
 
 
 if __name__ == "__main__":

@@ -109,26 +109,26 @@ def bodies() -> dict[str, list[str]]:
     return found
 
 
-def told(crates: list[str]) -> Iterator[str]:
-    """What is named, of these crates or of all."""
+def without_user(crates: list[str]) -> Iterator[str]:
+    """The definitions and lemmas of these crates, or of all, that nothing needs."""
     for file, name in Repository().unneeded():
         if not crates or file.module.split(".")[0] in crates:
             it = file.definitions[name]
             yield f"{file.path.relative_to(TOP)}:{it.line}: {name} has no user ({len(it.own_lines)} lines)"
+
+
+def repeated(crates: list[str]) -> Iterator[str]:
+    """The bodies that stand more than once, once at least in one of these crates, or in any."""
+    folders = [f"crates/{crate}/" for crate in crates] or ["crates/"]
     for body, places in bodies().items():
-        if (
-            len(places) > 1
-            and body.count("\n") + 1 >= LEAST
-            and (
-                not crates
-                or any(f"crates/{crate}/" in place for place in places for crate in crates)
-            )
-        ):
+        is_long = body.count("\n") + 1 >= LEAST
+        is_asked = any(folder in place for place in places for folder in folders)
+        if len(places) > 1 and is_long and is_asked:
             yield f"{places[0]} stands again in {', '.join(places[1:])}"
 
 
 def main(arguments: list[str]) -> int:
-    lines = list(told(arguments))
+    lines = [*without_user(arguments), *repeated(arguments)]
     print(*lines, sep="\n")
     return 1 if lines else 0
 

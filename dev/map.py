@@ -122,23 +122,31 @@ def chains() -> str:
     return "\n".join(told)
 
 
+def steps_between(found: list[Room], uses: dict[str, list[str]]) -> list[tuple[str, str]]:
+    """The pairs of rooms of which a crate of the first stands on one of the second.
+
+    The tests are left out: they stand on nearly all.
+    """
+    room = {crate: it.name for it in found for crate in it.crates}
+    steps = {(room[crate], room[other]) for crate, used in reduced(uses).items() for other in used}
+    return sorted((one, other) for one, other in steps if one not in (other, "tests"))
+
+
 def arrows(
     found: list[Room], uses: dict[str, list[str]]
 ) -> tuple[dict[str, list[str]], list[tuple[str, str]]]:
     """The rooms that each room stands on, those left out that another one of these stands on; and the pairs that lead
-    the other way, to a room that comes later in crates.txt. The tests are left out: they stand on nearly all.
+    the other way, to a room that comes later in crates.txt.
     """
-    room = {crate: it.name for it in found for crate in it.crates}
     order = {it.name: place for place, it in enumerate(found)}
-    steps = {(room[crate], room[other]) for crate, used in reduced(uses).items() for other in used}
-    steps = {(one, other) for one, other in steps if one != other and one != "tests"}
-    down = {
-        it.name: [
-            other for one, other in sorted(steps) if one == it.name and order[other] < order[one]
-        ]
-        for it in found
-    }
-    return reduced(down), sorted((one, other) for one, other in steps if order[other] > order[one])
+    down: dict[str, list[str]] = {it.name: [] for it in found}
+    up: list[tuple[str, str]] = []
+    for one, other in steps_between(found, uses):
+        if order[other] < order[one]:
+            down[one].append(other)
+        else:
+            up.append((one, other))
+    return reduced(down), up
 
 
 def wrapped(names: list[str], width: float) -> list[str]:
@@ -318,28 +326,36 @@ def drawing(
     )
 
 
-def main(word: str) -> int:
-    if word in ("--table", "--chains"):
-        print(table() if word == "--table" else chains())
-        return 0
-    if word not in ("--write", "--check"):
-        sys.exit(__doc__)
+def stale_pictures() -> dict[str, str]:
+    """The pictures that are not as the texts say, by file, each as it is to be."""
     made = {
         f"{name}-{scheme}.svg": draw(scheme)
         for name, draw in (("crates", map_picture), ("speed", bars_picture))
         for scheme in MAP
     }
-    stale = [
-        name
+    return {
+        name: text
         for name, text in made.items()
         if not (PICTURES / name).exists() or (PICTURES / name).read_text() != text
-    ]
-    for name in stale:
-        if word == "--write":
-            (PICTURES / name).write_text(made[name])
-        else:
+    }
+
+
+def main(word: str) -> int:
+    if word == "--table":
+        print(table())
+    elif word == "--chains":
+        print(chains())
+    elif word == "--write":
+        for name, text in stale_pictures().items():
+            (PICTURES / name).write_text(text)
+    elif word == "--check":
+        stale = stale_pictures()
+        for name in stale:
             print(f"docs/pictures/{name} is not as map.py --write makes it")
-    return 1 if stale and word == "--check" else 0
+        return 1 if stale else 0
+    else:
+        sys.exit(__doc__)
+    return 0
 
 
 if __name__ == "__main__":

@@ -19,6 +19,7 @@ import subprocess
 import sys
 import time
 import types
+from collections.abc import Iterable, Iterator
 from typing import Any
 
 import check
@@ -27,6 +28,7 @@ from shared import TOP
 PLANT = f"{check.KIT}/bin/rt-plant"
 # Whether the unchanged call is planted beside the wrong ones.
 CONTROLS = "controls *= len(first) < most"
+JUDGED = re.compile(r"(?m)^(only=|rattle: no verdict)")  # what a check says that came to its end
 
 
 def loaded(is_first: bool) -> Any:
@@ -65,7 +67,8 @@ def take_libraries(module: Any, crate: str) -> None:
 
 def choose(module: Any, only: str) -> None:
     """Takes private functions too, with two bodies each."""
-    gives_up, chosen = module.bodies.Bodies.giving_up, module.chosen
+    gives_up = module.bodies.Bodies.giving_up
+    chosen = module.chosen
 
     def few(self: Any) -> list[Any]:
         found: list[Any] = gives_up(self)
@@ -81,64 +84,105 @@ def choose(module: Any, only: str) -> None:
             f.shown += " (private)"
         return found
 
-    module.bodies.Bodies.giving_up, module.chosen = few, matching
+    module.bodies.Bodies.giving_up = few
+    module.chosen = matching
+
+
+def check_of(module: Any, copy: Any, names: Iterable[str], seconds: float) -> str | None:
+    """What one check of these functions of a copy of the crate says; None where it has no end in time.
+
+    Args:
+        module: The kit's `rt plant`.
+        copy: The copy, in which plants stand.
+        names: The functions that are checked.
+        seconds: How long it may take; no longer than the copy has.
+    """
+    words = [it for name in names for it in ("--only", name)]
+    words = [*copy.crate.words([*copy.flags, *words]), *module.rt.KEPT, "--progress"]
+    left = max(min(seconds, copy.end - time.monotonic()), 0)
+    try:
+        ran = subprocess.run(
+            [*module.rt.guarded(), module.rt.RATTLE, "check", *words],
+            timeout=left,
+            cwd=copy.folder,
+            stdin=subprocess.DEVNULL,
+            stdout=subprocess.PIPE,
+            stderr=subprocess.STDOUT,
+            text=True,
+            errors="replace",
+        )
+    except subprocess.TimeoutExpired:
+        return None
+    return ran.stdout if ran.returncode >= 0 else None
+
+
+def not_compiled(module: Any, copy: Any, said: str | None) -> set[Any]:
+    """The plants at whose lines a check finds errors."""
+    places = module.ERROR.findall(said or "")
+    return {copy.lines.get((file, int(line))) for file, line in places} - {None}
+
+
+def functions_of(plants: list[Any]) -> Iterator[str]:
+    """The functions that are checked to judge these plants, by the names that rattle takes."""
+    for it in plants:
+        yield from it.f.symbols or [it.name]
+
+
+def judge_batch(module: Any, copy: Any, plants: list[Any]) -> list[list[Any]]:
+    """Judges a batch of plants, or gives the two halves that it is to be tried in.
+
+    Plants that do not compile are left out, and the rest is checked again. A check that neither names such plants nor
+    judges had no end in time.
+    """
+    while plants and not copy.is_late():
+        copy.write(plants)
+        said = copy.check(functions_of(plants))
+        if said and JUDGED.search(said):
+            module.read(plants, said)
+            return []
+        wrong = not_compiled(module, copy, said)
+        if not wrong:
+            return halves(module, copy, plants)
+        for it in wrong:
+            it.kind = "not-source"
+        plants = [it for it in plants if it not in wrong]
+    return []
+
+
+def halves(module: Any, copy: Any, plants: list[Any]) -> list[list[Any]]:
+    """The two halves of a batch whose check had no end; where it was one plant, and there was time, that plant has none."""
+    if len(plants) > 1:
+        half = len(plants) // 2
+        return [plants[:half], plants[half:]]
+    if not copy.is_late():
+        plants[0].kind = "not-judged"
+        plants[0].why = module.NO_END
+    return []
 
 
 def judge_in_batches(module: Any, size: int, seconds: float) -> None:
-    """Lets one check both compile and judge: what does not compile is left out, and the rest is checked again."""
+    """Lets one check both compile and judge the plants of a batch.
+
+    Args:
+        module: The kit's `rt plant`, of which three functions are replaced.
+        size: How many plants a batch has.
+        seconds: How long one check may take.
+    """
 
     def compiled(_: Any, plants: list[Any]) -> list[Any]:
         return [it for it in plants if it.kind == "not-run"]
 
-    def tried(copy: Any, names: Any) -> str | None:
-        words = [it for name in names for it in ("--only", name)]
-        words = [*copy.crate.words([*copy.flags, *words]), *module.rt.KEPT, "--progress"]
-        left = max(min(seconds, copy.end - time.monotonic()), 0)
-        try:
-            whole = [*module.rt.guarded(), module.rt.RATTLE, "check", *words]
-            ran = subprocess.run(
-                whole,
-                timeout=left,
-                cwd=copy.folder,
-                stdin=subprocess.DEVNULL,
-                stdout=subprocess.PIPE,
-                stderr=subprocess.STDOUT,
-                text=True,
-                errors="replace",
-            )
-        except subprocess.TimeoutExpired:
-            return None
-        return ran.stdout if ran.returncode >= 0 else None
-
-    def judge_one(copy: Any, now: list[Any]) -> list[list[Any]]:
-        """Judges a batch, or gives the two halves that it is to be tried in."""
-        while now and not copy.is_late():
-            copy.write(now)
-            said = copy.check(n for it in now for n in it.f.symbols or [it.name])
-            if said and re.search(r"(?m)^(only=|rattle: no verdict)", said):
-                module.read(now, said)
-                return []
-            wrong = {
-                copy.lines.get((file, int(line))) for file, line in module.ERROR.findall(said or "")
-            } - {None}
-            for it in wrong:
-                it.kind = "not-source"
-            if not wrong and len(now) > 1:
-                return [now[: len(now) // 2], now[len(now) // 2 :]]
-            if not wrong and not copy.is_late():
-                now[0].kind, now[0].why = "not-judged", module.NO_END
-                return []
-            now = [it for it in now if it not in wrong]
-        return []
+    def checked(copy: Any, names: Iterable[str]) -> str | None:
+        return check_of(module, copy, names, seconds)
 
     def judge(copy: Any, plants: list[Any]) -> None:
         batches = [plants[at : at + size] for at in range(0, len(plants), size)]
         while batches and not copy.is_late():
-            batches[:1] = judge_one(copy, batches[0])
+            batches[:1] = judge_batch(module, copy, batches[0])
             print(f"{sum(map(len, batches))} plants left in this pass", file=sys.stderr, flush=True)
 
     module.Copy.compiled = compiled
-    module.Copy.check = tried
+    module.Copy.check = checked
     module.Copy.judge = judge
 
 

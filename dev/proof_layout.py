@@ -79,6 +79,25 @@ def has_comment(text: str) -> bool:
     return any(match.group().startswith("--") for match in WORD.finditer(text))
 
 
+def best_place(found: list[Place], start: int, inset: int) -> Place | None:
+    """Where what is left of a line is broken next; None where it cannot be.
+
+    Of the places within the width, and of those that leave the line well filled if there are any, the outermost and
+    loosest is taken, the last one of these; where none is within the width, the first that there is.
+
+    Args:
+        found: The places of the whole line, in order.
+        start: The column at which the rest begins.
+        inset: How many columns it is moved in.
+    """
+    left = [it for it in found if it.column > start]
+    within = [it for it in left if inset + it.column - start <= WIDTH + 1] or left[:1]
+    filled = [it for it in within if inset + it.column - start >= LEAST_FILLED] or within
+    if not filled:
+        return None
+    return min(filled, key=lambda it: (it.depth, it.rank, -it.column))
+
+
 def broken(text: str, indent: int) -> list[str]:
     """A line, without its own indent, as lines with theirs."""
     found = list(places(text))
@@ -87,15 +106,9 @@ def broken(text: str, indent: int) -> list[str]:
     start = 0
     inset = indent
     while inset + len(text) - start > WIDTH:
-        within = [
-            it for it in found if it.column > start and inset + it.column - start <= WIDTH + 1
-        ]
-        if not within:
-            within = [it for it in found if it.column > start][:1]
-        if not within:
+        best = best_place(found, start, inset)
+        if best is None:
             break
-        filled = [it for it in within if inset + it.column - start >= LEAST_FILLED] or within
-        best = min(filled, key=lambda it: (it.depth, it.rank, -it.column))
         lines.append(" " * inset + text[start : best.column].rstrip())
         start = best.column
         inset = indent + min(DEEPEST, 2 + 2 * (best.depth - outermost))

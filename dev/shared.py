@@ -147,44 +147,71 @@ class File:
         text = path.read_text(encoding="utf-8")
         self.path, self.module = path, ".".join(path.relative_to(CRATES).with_suffix("").parts)
         self.imports = {it.known_as: it for it in imports_of(text)}
-        self.head, self.others = list[str](), list[str]()
-        self.definitions: dict[str, Definition] = {}
-        self.read(text)
+        found = Cut(self.module)
+        for number, line in enumerate(map(str.rstrip, text.splitlines()), 1):
+            found.take(number, line)
+        self.head = found.head
+        self.others = found.others
+        self.definitions = found.definitions
         self.owners = {
             case: name for name, it in self.definitions.items() for case in it.constructors()
         }
 
-    def read(self, text: str) -> None:
-        """Cuts the text into definitions: each is what stands at a depth where one may begin, with its comment."""
-        comment: list[str] = []
-        last: list[str] = []  # where lines that go on are added
-        is_open = False  # whether a definition goes on
-        depths = {0}  # columns at which a definition may begin
-        for number, line in enumerate(map(str.rstrip, text.splitlines()), 1):
-            depth = len(line) - len(line.lstrip())
-            if IMPORT.match(line):
-                self.head += comment
-                comment = []
-            elif is_comment(line):
-                (last if is_open else comment).append(line)
-            elif not line or line.lstrip().startswith("infix"):
-                is_open = False
-            else:
-                depths = {at for at in depths if at <= depth} | {0}
-                begun = BEGINS.match(line)
-                if MODULE.match(line):
-                    depths.add(depth + 2)
-                    comment, last = [*comment, line], self.others
-                elif (
-                    begun
-                    and depth in depths
-                    and DEFINED.match(line)
-                    and begun["name"] not in KEYWORDS
-                ):
-                    made = Definition((self.module, begun["name"]), number, comment)
-                    comment, last = [], self.definitions.setdefault(begun["name"], made).lines
-                is_open = last is not self.others
-                last.append(line)
+
+class Cut:
+    """Cuts a text into definitions, line by line: each is what stands at a depth where one may begin, with its comment.
+
+    Attributes:
+        head: The comments above imports.
+        others: The lines that are of no definition.
+        definitions: By name, in order.
+    """
+
+    def __init__(self, module: str) -> None:
+        self.module = module
+        self.head: list[str] = []
+        self.others: list[str] = []
+        self.definitions: dict[str, Definition] = {}
+        self.comment: list[str] = []  # what stands above the next definition
+        self.last: list[str] = []  # where lines that go on are added
+        self.is_open = False  # whether a definition goes on
+        self.depths = {0}  # columns at which a definition may begin
+
+    def take(self, number: int, line: str) -> None:
+        """Takes the next line, which has no blanks at its end."""
+        if IMPORT.match(line):
+            self.head += self.comment
+            self.comment = []
+        elif is_comment(line):
+            (self.last if self.is_open else self.comment).append(line)
+        elif not line or line.lstrip().startswith("infix"):
+            self.is_open = False
+        else:
+            self.take_text(number, line)
+
+    def take_text(self, number: int, line: str) -> None:
+        """Takes a line that begins a module or a definition, or goes on with what was begun."""
+        depth = len(line) - len(line.lstrip())
+        self.depths = {at for at in self.depths if at <= depth} | {0}
+        name = begun_name(line)
+        if MODULE.match(line):
+            self.depths.add(depth + 2)
+            self.comment = [*self.comment, line]
+            self.last = self.others
+        elif name is not None and depth in self.depths:
+            made = Definition((self.module, name), number, self.comment)
+            self.comment = []
+            self.last = self.definitions.setdefault(name, made).lines
+        self.is_open = self.last is not self.others
+        self.last.append(line)
+
+
+def begun_name(line: str) -> str | None:
+    """The name of the definition that a line begins, if its depth allows one; None where it begins none."""
+    begun = BEGINS.match(line)
+    if begun is None or not DEFINED.match(line) or begun["name"] in KEYWORDS:
+        return None
+    return begun["name"]
 
 
 class Library:

@@ -20,7 +20,7 @@ from __future__ import annotations
 
 import re
 import sys
-from collections.abc import Iterable, Sequence
+from collections.abc import Iterable, Iterator, Sequence
 from graphlib import TopologicalSorter
 from itertools import groupby
 
@@ -123,6 +123,20 @@ def upwards(below: dict[T, set[T]]) -> list[T]:
     )
 
 
+def crate_of(module: str) -> str:
+    """The crate in which a file stands."""
+    return module.split(".")[0]
+
+
+def crates_below(files: dict[str, set[str]]) -> dict[str, set[str]]:
+    """Of each crate of these files, each with those that it rests on, the other crates that it rests on."""
+    crates: dict[str, set[str]] = {crate_of(module): set() for module in files}
+    for module, others in files.items():
+        crate = crate_of(module)
+        crates[crate] |= {crate_of(other) for other in others} - {crate}
+    return crates
+
+
 class Statement(Library):
     """All definitions of the repository."""
 
@@ -161,19 +175,20 @@ class Statement(Library):
         """Definitions by file: crates, and files in a crate, after those that they rest on, definitions in their order.
 
         Arithmetic comes last."""
-        files: dict[str, set[str]] = {module: set() for module, _ in keys}
-        for key in keys:
-            files[key[0]] |= {module for module, _ in self.rests_on(key)} - {key[0]}
-        crates: dict[str, set[str]] = {module.split(".")[0]: set() for module in files}
-        for module, others in files.items():
-            crate = module.split(".")[0]
-            crates[crate] |= {other.split(".")[0] for other in others} - {crate}
-        rank = {crate: number for number, crate in enumerate(upwards(crates))}
-        order = sorted(upwards(files), key=lambda it: (is_arithmetic(it), rank[it.split(".")[0]]))
+        files = self.files_below(keys)
+        rank = {crate: number for number, crate in enumerate(upwards(crates_below(files)))}
+        order = sorted(upwards(files), key=lambda it: (is_arithmetic(it), rank[crate_of(it)]))
         return {
             it: sorted((key for key in keys if key[0] == it), key=lambda key: self[key].line)
             for it in order
         }
+
+    def files_below(self, keys: list[Key]) -> dict[str, set[str]]:
+        """Of each file of these definitions the other files on which they rest."""
+        files: dict[str, set[str]] = {module: set() for module, _ in keys}
+        for key in keys:
+            files[key[0]] |= {module for module, _ in self.rests_on(key)} - {key[0]}
+        return files
 
     def types_of(self, keys: list[Key]) -> dict[tuple[str, str], list[str]]:
         """The types that code declares and these definitions use, by file and name, with their lines."""
@@ -346,9 +361,8 @@ def told_senses(statement: Statement) -> str:
     return "\n".join(lines)
 
 
-def complaints(statement: Statement) -> list[str]:
-    """Promises without a theorem, what statements rest on and may not (what is inside, and a lemma whose type is no proposition),
-    and names of two senses."""
+def promises_without_theorem(statement: Statement) -> Iterator[str]:
+    """What the tables of commands promise and no row of the reading list says."""
     rows = {root for roots in THEOREMS.values() for root in roots}
     promised = {
         it
@@ -356,26 +370,39 @@ def complaints(statement: Statement) -> list[str]:
         for it in statement.rests_on(key_of(table))
         if it[1].endswith(("_promise", "_row"))
     }
-    found = {
-        f"no theorem of docs/verify/reading.md has {place_of(module)}:{name}"
-        for module, name in promised - rows
-    }
-    for it in THEOREMS:
-        for key in statement.of(it):
-            shown = f"{place_of(key[0])}/{key[1]}"
-            if ".Inside" in key[0]:
-                found.add(f"{shown} is part of the statement of `{it}`")
-            found |= {
-                f"{place_of(lemma[0])}/{lemma[1]} is no proof, and {shown} cites it"
-                for lemma in statement.names_in(key)
-                if is_lemma(lemma) and not is_proof(statement[lemma])
-            }
-        named, most = senses(statement, it), TWO_SENSES.get(it, 0)
-        if len(named) > most and it in ALONE:
-            found.add(
-                f"{len(named)} names have two senses in the statement of `{it}`, more than {most}: "
-                f"{', '.join(named)} (dev/statement.py --senses)"
-            )
+    for module, name in promised - rows:
+        yield f"no theorem of docs/verify/reading.md has {place_of(module)}:{name}"
+
+
+def wrongly_rested_on(statement: Statement, theorem: str) -> Iterator[str]:
+    """What the statement of a theorem rests on and may not: what is inside, and a lemma whose type is no proposition."""
+    for key in statement.of(theorem):
+        shown = f"{place_of(key[0])}/{key[1]}"
+        if ".Inside" in key[0]:
+            yield f"{shown} is part of the statement of `{theorem}`"
+        for lemma in statement.names_in(key):
+            if is_lemma(lemma) and not is_proof(statement[lemma]):
+                yield f"{place_of(lemma[0])}/{lemma[1]} is no proof, and {shown} cites it"
+
+
+def too_many_senses(statement: Statement, theorem: str) -> Iterator[str]:
+    """Whether more names have two senses in the statement of a theorem than are allowed."""
+    named = senses(statement, theorem)
+    most = TWO_SENSES.get(theorem, 0)
+    if len(named) > most:
+        yield (
+            f"{len(named)} names have two senses in the statement of `{theorem}`, more than {most}: "
+            f"{', '.join(named)} (dev/statement.py --senses)"
+        )
+
+
+def complaints(statement: Statement) -> list[str]:
+    """Promises without a theorem, what statements rest on and may not, names of two senses, and a stale reading list."""
+    found = set(promises_without_theorem(statement))
+    for theorem in THEOREMS:
+        found.update(wrongly_rested_on(statement, theorem))
+    for theorem in ALONE:
+        found.update(too_many_senses(statement, theorem))
     is_stale = READING.read_text() != reading(statement)
     if not is_stale:
         return sorted(found)
@@ -383,23 +410,34 @@ def complaints(statement: Statement) -> list[str]:
     return [*sorted(found), stale]
 
 
+def check(statement: Statement) -> int:
+    """Prints what is wrong; the status of the script."""
+    found = complaints(statement)
+    print("\n".join(found), end="\n" if found else "")
+    return 1 if found else 0
+
+
+def print_definitions(statement: Statement, names: list[str]) -> None:
+    """Prints what these definitions, each CRATE/FILE:NAME, rest on; ends the script where one is not there."""
+    for name in names:
+        if not statement.has(key_of(name)):
+            sys.exit(
+                f"dev/statement.py: {name}: no definition CRATE/FILE:NAME and no option (dev/statement.py without words lists them)"
+            )
+    print(printed(statement, [key_of(name) for name in names]))
+
+
 def main(words: list[str]) -> int:
     statement = Statement()
     texts = {"--all": all_texts, "--lists": lists, "--senses": told_senses}
     if words == ["--check"]:
-        found = complaints(statement)
-        print("\n".join(found), end="\n" if found else "")
-        return 1 if found else 0
+        return check(statement)
     if words == ["--write"]:
         READING.write_text(reading(statement))
     elif len(words) == 1 and words[0] in texts:
         print(texts[words[0]](statement))
-    elif unknown := next((word for word in words if not statement.has(key_of(word))), None):
-        sys.exit(
-            f"dev/statement.py: {unknown}: no definition CRATE/FILE:NAME and no option (dev/statement.py without words lists them)"
-        )
     else:
-        print(printed(statement, [key_of(word) for word in words]))
+        print_definitions(statement, words)
     return 0
 
 

@@ -15,8 +15,8 @@ import re
 import subprocess
 import sys
 import warnings
-from collections import Counter
 from collections.abc import Callable, Iterator
+from itertools import chain
 from pathlib import Path
 from typing import NamedTuple, Optional, Union
 
@@ -34,8 +34,9 @@ LEAST_LINES_WITH_DOCSTRING = 8  # of a public function, without its head
 MOST_PACKED = 2  # names that one assignment may bind from a written list of values
 
 SHEBANG = re.compile(rb"#!.*python3?\s")
-TEMPLATE = re.compile(rb"@\w+@ import")
+TEMPLATE = re.compile(rb"@\w+@ import")  # a script whose marks packaging/ fills in is no Python yet
 TRUTH_NAME = re.compile(r"(is|has|are|was|can|may|wants)_")
+# Functions to which a truth value is a value among values: it has no name there.
 PASSES_BOOLEANS = {
     "get",
     "getattr",
@@ -45,9 +46,16 @@ PASSES_BOOLEANS = {
     "Value",
     "append",
     "add",
-}  # a value among values
+}
 EXCEPTION_BASE = re.compile(r"^(?:Base)?Exception$|Error$|^KeyboardInterrupt$|Warning$")
 WRITING_MODE = re.compile(r"[wax+]")
+FLAGS_OF_MANY_LINES = ("re.S", "re.M", "re.DOTALL", "re.MULTILINE")
+# The modules of the package that may do what the others may not.
+OF_EXCEPTIONS = ("system.errors",)
+OF_PRINTING = ("commands.console", "solvers.highs_script")  # the second is a program of its own
+OF_WRITING = ("system.files", "formats.source")
+OF_PROCESSES = ("system.processes",)
+NAMES_OF_SECONDS = {"timeout", "seconds", "time_limit"}  # of parameters
 
 Function = Union[ast.FunctionDef, ast.AsyncFunctionDef]
 Defined = (ast.FunctionDef, ast.AsyncFunctionDef, ast.ClassDef)
@@ -71,7 +79,7 @@ class Module(NamedTuple):
     """A module that is looked at.
 
     Attributes:
-        path: From the top of the repository.
+        path: From the top of the repository. It says whether the module is of the drivers' package, or a test.
         text: What stands in it.
         tree: Its syntax tree.
         places: Of each node the function or class in which it stands, as `Class.method`; `-` of the module itself.
@@ -91,7 +99,12 @@ class Module(NamedTuple):
         return "/tests/" in self.path
 
     def name_in_package(self) -> str:
+        """Its name within the drivers' package, as `system.files`; nothing where it is not of it."""
         return self.path[len(PACKAGE) : -len(".py")].replace("/", ".") if self.is_of_drivers else ""
+
+    def is_bound(self, free: tuple[str, ...]) -> bool:
+        """Whether a rule of the drivers' package, which these modules of it are free of, binds this one."""
+        return self.is_of_drivers and self.name_in_package() not in free
 
     def finding(self, rule: str, node: ast.AST, text: str) -> Finding:
         return Finding(
@@ -99,7 +112,7 @@ class Module(NamedTuple):
         )
 
 
-Found = Iterator[tuple[ast.AST, str]]
+Found = Iterator[tuple[ast.AST, str]]  # the nodes that break a rule, each with what is said of it
 Rule = Callable[[Module], Found]
 
 
@@ -139,11 +152,13 @@ def multiplied(module: Module) -> Found:
 
 
 def is_sequence(node: ast.expr) -> bool:
+    """Whether this is written as a text, a list or a tuple."""
     is_text = isinstance(node, ast.Constant) and isinstance(node.value, (str, bytes))
     return is_text or isinstance(node, (ast.List, ast.Tuple, ast.JoinedStr, ast.ListComp))
 
 
 def is_truth(node: ast.expr) -> bool:
+    """Whether this is a truth value, by its form or by its name (`is_last`, `has_rows()`)."""
     if isinstance(node, (ast.Compare, ast.BoolOp)):
         return True
     if isinstance(node, ast.UnaryOp) and isinstance(node.op, ast.Not):
@@ -256,21 +271,22 @@ def documented_arguments(docstring: str) -> list[str]:
 def parameters_of(node: ast.AST) -> set[str]:
     """The names of a function's parameters, or of those of a class's constructor and its fields."""
     if isinstance(node, ast.ClassDef):
-        fields = {
-            it.target.id
-            for it in node.body
-            if isinstance(it, ast.AnnAssign) and isinstance(it.target, ast.Name)
-        }
-        made = [
-            it
-            for it in node.body
-            if isinstance(it, ast.FunctionDef) and it.name in ("__init__", "__new__")
-        ]
-        return fields.union(*map(parameters_of, made))
+        return parameters_of_class(node)
     assert isinstance(node, (ast.FunctionDef, ast.AsyncFunctionDef))
     given = node.args
     named = [*given.posonlyargs, *given.args, *given.kwonlyargs, given.vararg, given.kwarg]
     return {argument.arg for argument in named if argument is not None}
+
+
+def parameters_of_class(node: ast.ClassDef) -> set[str]:
+    """The names of a class's annotated fields and of its constructor's parameters."""
+    found: set[str] = set()
+    for it in node.body:
+        if isinstance(it, ast.AnnAssign) and isinstance(it.target, ast.Name):
+            found.add(it.target.id)
+        if isinstance(it, ast.FunctionDef) and it.name in ("__init__", "__new__"):
+            found |= parameters_of(it)
+    return found
 
 
 # ---- what one module alone may do
@@ -278,7 +294,7 @@ def parameters_of(node: ast.AST) -> set[str]:
 
 def exception_class(module: Module) -> Found:
     """Exceptions are defined in system.errors alone."""
-    if not module.is_of_drivers or module.name_in_package() == "system.errors":
+    if not module.is_bound(OF_EXCEPTIONS):
         return
     for node in ast.walk(module.tree):
         if isinstance(node, ast.ClassDef) and any(
@@ -289,10 +305,7 @@ def exception_class(module: Module) -> Found:
 
 def printing(module: Module) -> Found:
     """Only commands.console writes to the standard streams."""
-    if not module.is_of_drivers or module.name_in_package() in (
-        "commands.console",
-        "solvers.highs_script",
-    ):
+    if not module.is_bound(OF_PRINTING):
         return
     for node in ast.walk(module.tree):
         if (
@@ -307,7 +320,7 @@ def printing(module: Module) -> Found:
 
 def writing(module: Module) -> Found:
     """Only system.files, and formats.source for private copies, open files for writing."""
-    if not module.is_of_drivers or module.name_in_package() in ("system.files", "formats.source"):
+    if not module.is_bound(OF_WRITING):
         return
     for node in ast.walk(module.tree):
         if isinstance(node, ast.Call) and is_writing(node):
@@ -315,6 +328,7 @@ def writing(module: Module) -> Found:
 
 
 def is_writing(node: ast.Call) -> bool:
+    """Whether a call opens a file for writing, or writes one at once."""
     if last_name(node.func) in ("write_text", "write_bytes"):
         return True
     if not isinstance(node.func, ast.Name) or node.func.id != "open":
@@ -325,7 +339,7 @@ def is_writing(node: ast.Call) -> bool:
 
 def starting(module: Module) -> Found:
     """Only system.processes starts programs."""
-    if not module.is_of_drivers or module.name_in_package() == "system.processes":
+    if not module.is_bound(OF_PROCESSES):
         return
     for node in ast.walk(module.tree):
         names = [alias.name for alias in node.names] if isinstance(node, ast.Import) else []
@@ -337,16 +351,16 @@ def starting(module: Module) -> Found:
 
 def counted_time(module: Module) -> Found:
     """One deadline goes through a run: no parameter is a number of seconds."""
-    if not module.is_of_drivers or module.name_in_package() == "system.processes":
+    if not module.is_bound(OF_PROCESSES):
         return
     for node in ast.walk(module.tree):
         if isinstance(node, (ast.FunctionDef, ast.AsyncFunctionDef)):
-            for name in sorted(parameters_of(node) & {"timeout", "seconds", "time_limit"}):
+            for name in sorted(parameters_of(node) & NAMES_OF_SECONDS):
                 yield node, f"{node.name} has a parameter {name}"
 
 
 def hidden_import(module: Module) -> Found:
-    """Imports stand at the head of a module, but for optional packages below `try`."""
+    """What one module of the package takes of another is imported at its head, not in a function."""
     if not module.is_of_drivers:
         return
     for node in ast.walk(module.tree):
@@ -362,26 +376,27 @@ def regular_expression(module: Module) -> Found:
     if not module.is_of_drivers:
         return
     for node in ast.walk(module.tree):
-        if isinstance(node, ast.Attribute) and ast.unparse(node) in (
-            "re.S",
-            "re.M",
-            "re.DOTALL",
-            "re.MULTILINE",
-        ):
+        if isinstance(node, ast.Attribute) and ast.unparse(node) in FLAGS_OF_MANY_LINES:
             yield node, f"{ast.unparse(node)}: an expression over several lines"
-        if isinstance(node, ast.Call) and ast.unparse(node.func).startswith("re.") and node.args:
-            pattern = node.args[0]
-            if isinstance(pattern, ast.Constant) and isinstance(pattern.value, (str, bytes)):
-                value = (
-                    pattern.value
-                    if isinstance(pattern.value, str)
-                    else pattern.value.decode("latin-1")
-                )
-                if repeats_within(parsed(value)):
-                    yield node, f"a repetition in a repetition: {value!r}"
+        pattern = written_pattern(node)
+        if pattern is not None and repeats_within(parsed(pattern)):
+            yield node, f"a repetition in a repetition: {pattern!r}"
+
+
+def written_pattern(node: ast.AST) -> Optional[str]:
+    """The pattern that a call of a function of `re` has as a written text; None of all else."""
+    if not isinstance(node, ast.Call) or not ast.unparse(node.func).startswith("re."):
+        return None
+    first = node.args[0] if node.args else None
+    if not isinstance(first, ast.Constant):
+        return None
+    if isinstance(first.value, bytes):
+        return first.value.decode("latin-1")
+    return first.value if isinstance(first.value, str) else None
 
 
 def parsed(pattern: str) -> object:
+    """The parts of a pattern, as Python's own parser has them; nothing of what is no pattern."""
     try:
         return regular_expressions.parse(pattern)
     except (re.error, ValueError):
@@ -442,9 +457,14 @@ def places_of(tree: ast.Module) -> dict[ast.AST, str]:
 
 
 def module_of(path: Path) -> Module:
-    text = path.read_text(encoding="utf-8")
-    tree = ast.parse(text, filename=str(path))
-    return Module(str(path.relative_to(TOP)), text, tree, places_of(tree))
+    """The module in this file of the repository."""
+    return module_of_text(str(path.relative_to(TOP)), path.read_text(encoding="utf-8"))
+
+
+def module_of_text(path: str, text: str) -> Module:
+    """The module of this text, which stands (or would stand) at this path from the top of the repository."""
+    tree = ast.parse(text, filename=path)
+    return Module(path, text, tree, places_of(tree))
 
 
 def is_python(path: Path) -> bool:
@@ -469,19 +489,35 @@ def all_python() -> list[Path]:
     ]
 
 
-def findings(paths: list[Path]) -> Iterator[Finding]:
-    for path in paths:
-        module = module_of(path)
-        for name, rule in RULES.items():
-            yield from (module.finding(name, node, text) for node, text in rule(module))
+def findings(module: Module) -> Iterator[Finding]:
+    """All places of a module that break a rule, by rule."""
+    for name, rule in RULES.items():
+        yield from (module.finding(name, node, text) for node, text in rule(module))
 
 
-def excepted() -> Counter[str]:
+def excepted() -> set[str]:
     """The lines of the list, without comments."""
     lines = EXCEPTIONS.read_text(encoding="utf-8").splitlines() if EXCEPTIONS.exists() else []
-    return Counter(
-        line.partition("#")[0].strip() for line in lines if line.partition("#")[0].strip()
-    )
+    return {line.partition("#")[0].strip() for line in lines} - {""}
+
+
+def check(paths: list[Path], is_whole: bool) -> int:
+    """Prints what breaks a rule and is no exception; the status of the script.
+
+    Args:
+        paths: The files that are looked at.
+        is_whole: Whether they are all of the repository, so that an exception that none of them needs is a fault.
+    """
+    found = list(chain.from_iterable(findings(module_of(path)) for path in paths))
+    allowed = excepted()
+    wrong = [finding for finding in found if finding.key() not in allowed]
+    for finding in wrong:
+        print(f"{finding.path}:{finding.line}: {finding.place}: {finding.text} [{finding.rule}]")
+    unneeded = allowed - {finding.key() for finding in found} if is_whole else set()
+    for line in sorted(unneeded):
+        print(f"{EXCEPTIONS.relative_to(TOP)}: nothing needs any more: {line}")
+    print(f"style: {len(wrong)} wrong, {len(found) - len(wrong)} excepted")
+    return 1 if wrong or unneeded else 0
 
 
 def main(words: list[str]) -> int:
@@ -489,19 +525,12 @@ def main(words: list[str]) -> int:
         print(__doc__)
         return 0
     if words == ["--rules"]:
-        print(*(f"{name}: {rule.__doc__}" for name, rule in RULES.items()), sep="\n")
+        for name, rule in RULES.items():
+            print(f"{name}: {rule.__doc__}")
         return 0
-    found = list(findings([Path(word).resolve() for word in words] if words else all_python()))
-    allowed = excepted()
-    needed = {finding.key() for finding in found}
-    wrong = [finding for finding in found if finding.key() not in allowed]
-    for finding in wrong:
-        print(f"{finding.path}:{finding.line}: {finding.place}: {finding.text} [{finding.rule}]")
-    unneeded: Optional[list[str]] = None if words else sorted(set(allowed) - needed)
-    for line in unneeded or []:
-        print(f"{EXCEPTIONS.relative_to(TOP)}: nothing needs any more: {line}")
-    print(f"style: {len(wrong)} wrong, {len(found) - len(wrong)} excepted")
-    return 1 if wrong or unneeded else 0
+    if words:
+        return check([Path(word).resolve() for word in words], is_whole=False)
+    return check(all_python(), is_whole=True)
 
 
 if __name__ == "__main__":

@@ -49,6 +49,14 @@ X86_64 = b"\x3e\x00"  # the machine in an ELF file's head
 
 
 class File(NamedTuple):
+    """One file of a package.
+
+    Attributes:
+        path: From the folder into which it goes, at the end from the root of the package.
+        data: Its bytes.
+        mode: Who may read, write and run it.
+    """
+
     path: str
     data: bytes
     mode: int = 0o644
