@@ -1,4 +1,9 @@
-"""A solver's answer in decimals that the proved program reads, and the text that `bridge return` takes."""
+"""A solver's answer in decimals that the proved program reads, and the text that `bridge return`
+takes.
+
+The type is `Answer`: `answered_run` makes it of what a solver found, `resolution` moves it to what
+was proved, `certification` judges it, and `outputs` names its numbers.
+"""
 
 from __future__ import annotations
 
@@ -19,7 +24,7 @@ from .settings import Settings
 NEAR_WHOLE = 1e-5  # from a whole number: so near, a value of an integer column is meant to be it
 NEAR_DUAL = 1e-7  # of a dual or of 1: so near, a proved dual is the solver's
 LONGEST_FRACTION = 40  # characters of an objective that is told as a fraction
-LINES_AT_ONCE = 1 << 14
+LINES_AT_ONCE = 1 << 14  # lines of numbers that are joined in one piece
 
 CODE_OF_STATUS: Mapping[SolverStatus, Code] = {
     SolverStatus.OPTIMAL: Code.SOLVED,
@@ -36,21 +41,34 @@ CODE_OF_STATUS: Mapping[SolverStatus, Code] = {
 class Answer:
     """An answer in decimals, with the code that it is passed on with.
 
+    Its methods that answer another `Answer` leave this one as it is.
+
     Attributes:
         program: The program that it answers.
-        found: What the solver answered, or what is passed on in its place.
+        found: What the solver answered, or what is passed on in its place: numbers by column and by
+            row.
         settings: Those of the run.
         code: At first that of the solver's status.
-        values: One text for each column; None without a point.
-        duals: One text for each row; None where there are none.
-        reduced_costs: Numbers, one for each column; None where there are none.
-        rounded_values: How many values are only the nearest decimals of fractions.
-        rounded_duals: How many duals are.
-        distances: Of the integer columns that are not near a whole number, how far they are from one.
-        rounds_integers: Whether values of integer columns are meant to be whole numbers.
+        values: A decimal for each column of the program; None without a point.
+        duals: A decimal for each row of the program, rates of change of the objective in its own
+            sense; None where there are none.
+        reduced_costs: A number for each column, in the same sense; None where there are none.
+        rounded_values: How many of `values` are only the nearest decimals of fractions.
+        rounded_duals: How many of `duals` are.
+        distances: How far values of integer columns are from a whole number, of those that are
+            farther than NEAR_WHOLE.
+        rounds_integers: Whether values of integer columns are meant to be whole numbers: there are
+            such columns, they are not relaxed, and round=0 was not given.
     """
 
     def __init__(self, program: LinearProgram, found: SolverAnswer, settings: Settings) -> None:
+        """Makes the decimals of what a solver found, values of integer columns at the whole numbers
+        near them.
+
+        Raises:
+            NotDecimal: A number is infinite or not a number, or no decimal stands for it.
+            LookupError: There are fewer values than columns.
+        """
         self.program = program
         self.found = found
         self.settings = settings
@@ -72,30 +90,42 @@ class Answer:
 
     @property
     def is_continuous(self) -> bool:
-        """Whether no column had to be a whole number."""
+        """Whether the program has no integer columns, or they were relaxed (relax=1)."""
         return not self.program.integer_count or self.settings.solver_settings.relax
 
     @property
     def reduced_cost_texts(self) -> Sequence[str] | None:
-        """They are checked by nothing, exact or not."""
+        """A decimal of each reduced cost, by column; None where there are none.
+
+        Fractions without a decimal have the nearest one. That is not counted: nothing checks
+        reduced costs.
+        """
         costs = self.reduced_costs
         return None if costs is None else decimals(costs)[0]
 
     @cached_property
     def doubles(self) -> list[float]:
-        """The values that are written, one for each column; none without a point."""
+        """The nearest double of each of `values`, by column; empty without a point."""
         texts = self.values or []
         known = {text: float(text) for text in set(texts)}
         return list(map(known.__getitem__, texts))
 
     @cached_property
     def objective_terms(self) -> ObjectiveTerms:
-        """The objective in doubles at the values that are written."""
+        """The objective's terms in doubles, in its own sense, at the values that are written.
+
+        Only with a point.
+        """
         return self.program.objective_terms(self.doubles)
 
     @cached_property
     def residual(self) -> Residual:
-        """By how much the values that are written miss the program, where they miss it most."""
+        """By how much the values that are written miss a row or bound, of the one that they miss
+        most.
+
+        Where values of integer columns are far from whole numbers, it is the largest of these
+        distances; without a point it is NO_RESIDUAL.
+        """
         if self.distances:
             return residual_of(max(self.distances), "a whole number")
         if self.values is None:
@@ -103,12 +133,18 @@ class Answer:
         return worst_residual(self.program, self.values, wants_integers=self.rounds_integers)
 
     def is_usable(self) -> bool:
-        """Whether it says what the program is, and does not miss it by much."""
+        """Whether the solver need not be asked once more for it.
+
+        That is: its code is not that of `infeasible or unbounded`, and its point, where it has one,
+        misses the program by no more than is tolerated.
+        """
         is_clear = self.code != Code.INFEASIBLE_OR_UNBOUNDED
         return is_clear and not self.residual.is_significant()
 
     def notes(self) -> list[str]:
-        """Lines on values that are not what they should be."""
+        """Lines for the message on the values that are written: integer ones that are not near
+        whole numbers, and fractions that are rounded to decimals.
+        """
         notes = []
         if self.distances:
             count = len(self.distances)
@@ -124,9 +160,10 @@ class Answer:
         return notes
 
     def objective_text(self) -> str | None:
-        """The objective for a message; None without a point.
+        """The objective in its own sense, for a message; None without a point.
 
-        The solver's own fraction, else a double of ten digits at the values that are written.
+        It is the solver's own where that is a fraction (of more than LONGEST_FRACTION characters
+        its nearest double); else ten digits of the double at the values that are written.
         """
         if self.values is None:
             return None
@@ -141,12 +178,13 @@ class Answer:
         return f"{near} (a fraction of {len(text)} digits)"
 
     def with_code(self, code: Code) -> Answer:
+        """The same answer with another code."""
         other = copy.copy(self)
         other.code = code
         return other
 
     def without_point(self, code: Code) -> Answer:
-        """Nothing but a code."""
+        """An answer with this code, the solver's status and its words, and no numbers at all."""
         other = Answer(
             self.program, SolverAnswer(self.found.status, self.found.text), self.settings
         )
@@ -154,11 +192,15 @@ class Answer:
         return other
 
     def without_duals(self) -> Answer:
-        """The same values, basis aside: no duals and no reduced costs."""
+        """The same values without duals and reduced costs, and so without the basis, which is
+        written beside reduced costs alone.
+        """
         return self.with_duals(None)
 
     def with_duals(self, duals: Sequence[str] | None) -> Answer:
-        """The same values with other duals, and without reduced costs."""
+        """The same values with other duals (a decimal for each row, none of them counted as
+        rounded; None for none), and without reduced costs.
+        """
         other = copy.copy(self)
         other.__dict__.pop("_body", None)
         other.duals = duals
@@ -169,9 +211,17 @@ class Answer:
     def moved_near(
         self, values: Sequence[Number], duals: Mapping[int, Fraction], code: Code
     ) -> Answer:
-        """At values near its own, where its duals, reduced costs and basis still stand.
+        """The answer at a proved point that is its own but for its digits: reduced costs and basis
+        still stand.
 
-        The proved duals, by row, take the place of its own where they are near all of them.
+        Args:
+            values: Of the proved point, by column, that of a nonlinear objective's column too.
+            duals: Those of the certificate, by row of the program. They take the place of its own
+                where each is near its own (`_are_near`); rows that have none keep theirs.
+            code: That it is passed on with.
+
+        Returns:
+            Without duals where it has none itself.
         """
         found = replace(self.found, values=values, objective=None)
         own = found.duals
@@ -186,7 +236,15 @@ class Answer:
     def moved_to(
         self, values: Sequence[Number], duals: Mapping[int, Fraction], code: Code
     ) -> Answer:
-        """At other values, with the proved duals where there is one for each row, and what they leave of the costs."""
+        """The answer at another point, without its own duals, reduced costs and basis.
+
+        Args:
+            values: By column, that of a nonlinear objective's column too.
+            duals: Those of the certificate, by row of the program. They are taken, with the reduced
+                costs that they leave, where each row has one and the program is continuous; else
+                there are none.
+            code: That it is passed on with.
+        """
         has_duals = len(duals) == len(self.program.names.rows) and self.is_continuous
         given = [duals[row] for row in sorted(duals)] if has_duals else None
         found = replace(
@@ -201,7 +259,12 @@ class Answer:
         return Answer(self.program, found, self.settings).with_code(code)
 
     def text(self, message: Sequence[str]) -> bytes:
-        """What `bridge return` reads: the code, the message, and the numbers."""
+        """The bytes that `bridge return` makes a .sol of: the code, the objective's number from 0,
+        the message, and the numbers.
+
+        Args:
+            message: Its lines, without their ends.
+        """
         lines = [
             "answer 1",
             f"status {int(self.code)}",
@@ -211,7 +274,12 @@ class Answer:
         return ("\n".join(lines) + "\n").encode() + self._body
 
     def _with_integers(self, values: Sequence[Number]) -> Sequence[Number]:
-        """The values, integer columns at the whole numbers that they are near."""
+        """The values by column, those of integer columns within NEAR_WHOLE of a whole number being
+        that number.
+
+        Adds to `distances` how far the others are; infinite ones stay as they are. Nothing is done
+        unless `rounds_integers`.
+        """
         if not self.rounds_integers:
             return values
         found = list(values)
@@ -228,7 +296,7 @@ class Answer:
 
     @cached_property
     def _body(self) -> bytes:
-        """The lines of the numbers."""
+        """The lines of the numbers for `bridge return`: `col NAME V`, `row NAME V` and suffixes."""
         columns, rows = self.program.names.columns, self.program.names.rows
         parts: list[Iterator[bytes]] = []
         if self.values is not None:
@@ -239,7 +307,12 @@ class Answer:
         return b"".join(piece for part in parts for piece in part)
 
     def _suffixes(self) -> Iterator[Iterator[bytes]]:
-        """Reduced costs, and the basis beside them."""
+        """The lines of the suffixes `rc` (reduced costs) and `sstatus` (the basis); none without
+        reduced costs.
+
+        Reduced costs of 0 are left out, but where all are 0 the first is written, so that the
+        suffix is there.
+        """
         columns, rows = self.program.names.columns, self.program.names.rows
         costs = self.reduced_cost_texts
         if costs is None:
@@ -254,7 +327,12 @@ class Answer:
 
 
 def exact_reduced_costs(program: LinearProgram, duals: Sequence[Fraction]) -> list[Fraction]:
-    """What duals, one for each row, leave of the costs: c - A'y."""
+    """What duals leave of the costs, c - A'y, one for each column, in the objective's own sense.
+
+    Args:
+        program: Its rows as they are exported.
+        duals: y, one for each row, in the objective's own sense.
+    """
     numbers = list(map(read_fraction, program.written.numbers))
     costs = [Fraction(0)] * len(program.names.columns)
     for column, text in program.cost_texts.items():
@@ -268,6 +346,13 @@ def exact_reduced_costs(program: LinearProgram, duals: Sequence[Fraction]) -> li
 
 
 def _are_near(duals: Mapping[int, Fraction], own: Sequence[Number]) -> bool:
+    """Whether each proved dual is the solver's own but for rounding: |y - own| <= NEAR_DUAL *
+    max(1, |y|).
+
+    Args:
+        duals: The proved ones, by row; not each row need have one.
+        own: The solver's, one for each row.
+    """
     return all(
         abs(float(dual) - float(own[row])) <= NEAR_DUAL * max(1.0, abs(float(dual)))
         for row, dual in duals.items()
@@ -275,7 +360,12 @@ def _are_near(duals: Mapping[int, Fraction], own: Sequence[Number]) -> bool:
 
 
 def _lines(form: str, pairs: Iterable[tuple[str, object]]) -> Iterator[bytes]:
-    """Lines of one form, many at once."""
+    """The bytes of lines, joined by LINES_AT_ONCE.
+
+    Args:
+        form: A line with its end and two places for `%`.
+        pairs: What stands in these places, mostly a name and a decimal.
+    """
     left = iter(pairs)
     while part := list(islice(left, LINES_AT_ONCE)):
         yield "".join(map(form.__mod__, part)).encode()

@@ -1,4 +1,8 @@
-"""A solver's answer by the numbers of the file's variables and constraints, as the search takes it."""
+"""A solver's answer by the numbers of the file's variables and constraints, as the search takes it.
+
+`certification` calls `answer_by_place` before each search. The program that was exported may have
+one column and one row more than the file, and may lack rows of it.
+"""
 
 from __future__ import annotations
 
@@ -14,9 +18,14 @@ from .answer import Answer
 
 
 def answer_by_place(answer: Answer) -> AnswerByPlace:
-    """The solver's numbers, values of integer columns as they are written.
+    """The solver's own numbers as the search takes them, by the file's numbers from 0.
 
     The column and the row that stand for the value of a nonlinear objective are left out.
+
+    Returns:
+        Values by variable: those of integer columns exactly as they are written, the others as the
+            solver told them. Duals by constraint, in the objective's own sense, of the rows as they
+            are exported. The basis. Each is None where the solver did not tell it.
     """
     names = answer.program.names
     columns = len(names.columns) - (names.columns[-1:] == [EPIGRAPH_COLUMN])
@@ -28,6 +37,9 @@ def answer_by_place(answer: Answer) -> AnswerByPlace:
 
 
 def _values(answer: Answer, columns: int) -> List[Union[float, Fraction]] | None:
+    """The values of the first `columns` columns: doubles or fractions, of integer columns the
+    fraction that is written; None without a point.
+    """
     found, program = answer.found, answer.program
     if found.values is None or answer.values is None:
         return None
@@ -42,7 +54,14 @@ def _values(answer: Answer, columns: int) -> List[Union[float, Fraction]] | None
 
 
 def _basis(found: SolverAnswer, columns: int, numbers: Mapping[int, int]) -> clp.Basis | None:
-    """The basic columns, and the numbers of the rows that are not basic."""
+    """The basic columns, and the rows that are not basic (their slack is at a bound); None where
+    the solver told no basis.
+
+    Args:
+        found: What the solver answered, by column and row of the exported program.
+        columns: How many columns the file has; those behind them are left out.
+        numbers: The number of the file's constraint by row of the exported program.
+    """
     if found.column_basis is None or found.row_basis is None:
         return None
     statuses = enumerate(found.column_basis[:columns])

@@ -1,4 +1,9 @@
-"""What a solver answers to a program, what is proved of it, and what is passed on: the message and the .sol."""
+"""What a solver answers to a program, what is proved of it, and what is passed on: the message and
+the .sol.
+
+`solve.SolveRun` makes an `AnsweredRun` once the model is read; its `outcome` is an `Outcome`, which
+each command and call of the package tells.
+"""
 
 from __future__ import annotations
 
@@ -29,11 +34,14 @@ from .resolution import Resolution, RunFacts, proved_duals, resolve
 from .settings import Settings
 from .stored_certificate import StoredCertificate
 
+# the solver's words where the user interrupted it, by the status of what it had by then
 INTERRUPTED_WORDS = {
     SolverStatus.LIMIT_WITH_POINT: "interrupted with a feasible solution",
     SolverStatus.LIMIT: "interrupted without a feasible solution",
 }
+# a search that ends by one of these proves nothing, and the answer stands as it is
 SEARCH_FAULTS = (ArithmeticError, AssertionError, LookupError, TypeError, ValueError)
+# what reading an answer raises where it is missing or in no known form
 ANSWER_FAULTS = (UnclearAnswer, NotDecimal, LookupError, ValueError, ArithmeticError)
 
 
@@ -43,14 +51,15 @@ class Outcome:
 
     Attributes:
         code: AMPL's code.
-        lines: The message; the last line is the verdict, or why there is none.
-        sol: The .sol that `bridge return` made, empty where none is wanted; None where there is no answer to
-            return, and a .sol can have the code alone.
+        lines: The message, lines without ends; the last is the verdict, or why there is none.
+        sol: The .sol that `bridge return` made, empty where none is wanted; None where there is no
+            answer to return, and a .sol can have the code alone.
         answer: What is passed on; None where nothing was solved.
-        figures: A line of figures of the certificate.
+        figures: A line of figures of the certificate: its nodes, rows, bytes, or duals.
         said: What is proved; None where nothing is.
-        stored: Where the certificate is kept; None where none is wanted.
-        is_final: It is what `strict` wants, or that is not asked for.
+        stored: What was done with the certificate; None where none is wanted.
+        is_final: Whether it is proved optimal, infeasible or unbounded, or `strict` does not ask
+            for that.
         kept_folder: Where the files in between are; "" where they are not kept.
     """
 
@@ -69,11 +78,11 @@ class AnsweredRun:
     """From a program to its outcome: the solver's answers, and what is proved of them.
 
     Attributes:
-        solver: The solver.
+        solver: Which solver is asked.
         settings: Those of the whole run.
-        run: What the solver works with.
+        run: What the solver works with: the program, a folder for files, and its process.
         judge: Asks the proved program.
-        notes: Lines on the model.
+        notes: Lines of the message on the model, as it was read.
     """
 
     def __init__(
@@ -91,10 +100,29 @@ class AnsweredRun:
         self.notes = list(notes)
 
     def outcome(self) -> Outcome:
+        """Asks the solver, has its answer judged, and decides what is passed on.
+
+        Raises:
+            SolverFailed, NotStarted: There is no answer.
+            NotReturned: The proved program does not take the answer back.
+            Interrupted: The run was interrupted before the solver had an answer.
+        """
         return self._outcome_of(self.answer())
 
     def answer(self) -> Answer:
-        """What the solver answers. Where that misses the model by much, or says little, it is asked once more."""
+        """What the solver answers.
+
+        Where that misses the model by much, or says little, it is asked once more.
+
+        It is not asked at all where an integer column has no whole number between its bounds: that
+        is infeasible.
+
+        Raises:
+            SolverFailed: It has no answer, or says `infeasible or unbounded`, which
+                `refuses_unclear` takes for none.
+            NotStarted: It could not be run.
+            Interrupted: The run was interrupted before there was an answer.
+        """
         if not self.run.settings.relax and self.run.program.has_empty_domain():
             title = self.solver.title
             note = f"{title} was not asked: a whole variable has no whole number between its bounds"
@@ -116,11 +144,13 @@ class AnsweredRun:
         return answer
 
     def _asked(self) -> Answer:
-        """One run of the solver.
+        """One run of the solver, and its answer in decimals; the solver's words say where the user
+        interrupted it.
 
         Raises:
             UnusableAnswer: It gave no answer that is understood.
-            NotStarted: It could not be run.
+            NotStarted: It could not be run, or a file not be written.
+            Interrupted: The user interrupted it, and it told no answer.
         """
         try:
             self.run.remove_answers()
@@ -142,10 +172,15 @@ class AnsweredRun:
             raise NotStarted(path, str(fault.strerror), "run or written") from None
 
     def _retried(self, was: str) -> Answer | None:
-        """The answer to a second question, in another way; None where there is none.
+        """The answer to a second question, asked in the solver's other way (`retry_words`), with a
+        note on that.
 
         Args:
-            was: What the first answer was, for a note.
+            was: What the first answer was, in words behind `its first answer`.
+
+        Returns:
+            None where the solver has no other way, was asked so before or was interrupted, or fails
+            again.
         """
         if self.run.is_retry or not self.solver.retry_words or self.run.is_interrupted:
             return None
@@ -161,7 +196,14 @@ class AnsweredRun:
         return answer
 
     def _outcome_of(self, answer: Answer) -> Outcome:
-        """The outcome of an answer: what is proved decides what is passed on, and is told of it."""
+        """The outcome of an answer: what is proved decides what is passed on, and is told of it.
+
+        Where the solver's `optimal` is contradicted it is asked once more, and its second answer is
+        judged from the start.
+
+        Raises:
+            NotReturned: The proved program does not take the answer back.
+        """
         verdict = self._verdict(answer)
         if verdict.contradicts_answer and answer.code == Code.SOLVED:
             other = self._retried(words_of_first(answer.found))
@@ -195,7 +237,11 @@ class AnsweredRun:
         )
 
     def _notes_on_answer(self, answer: Answer, resolution: Resolution) -> list[str]:
-        """The solver's own answer where another one is told, and what there is to say of model and answer."""
+        """Lines on model and answer: the model's notes, the solver's, and by how much its point
+        misses what it misses most.
+
+        The solver's own answer is the first of them where another one is told in its place.
+        """
         lines = [*self.notes, *answer.found.notes, *self.solver.huge_notes(self.run.program)]
         residual = answer.residual
         if residual.is_significant():
@@ -206,6 +252,9 @@ class AnsweredRun:
         return lines
 
     def _notes_on_search(self, resolution: Resolution) -> list[str]:
+        """Lines on the search: that the user ended it, and the objective of a point other than the
+        solver's.
+        """
         lines = []
         if self.judge.is_interrupted:
             lines.append("interrupted: the search for a certificate was ended")
@@ -215,14 +264,28 @@ class AnsweredRun:
         return lines
 
     def _first_line(self, resolution: Resolution, passed_on: Answer, said: Statement | None) -> str:
-        """The head, with what is proved of a gap, and what code 0 is not earned for."""
+        """The first line of the message: the head, with what is proved of a gap, and what code 0 is
+        not earned for.
+
+        Args:
+            resolution: What is decided.
+            passed_on: The answer as it was returned, whose objective is told.
+            said: What is proved; None where nothing is.
+        """
         more = proved_gap_words(said) if passed_on.found.is_gap else ""
         if resolution.shortfall:
             more += f" (code 100: {resolution.shortfall})"
         return self._head(passed_on, corrected=resolution.text, more=more)
 
     def _head(self, answer: Answer, corrected: str | None = None, more: str = "") -> str:
-        """The first line: the solver's words and what there is to say of them, or what was proved instead."""
+        """The solver's title, its words or those told instead, the objective, and whether integers
+        were relaxed.
+
+        Args:
+            answer: Whose words and objective are told.
+            corrected: What is told in place of the solver's words; None where they hold.
+            more: Stands behind the words.
+        """
         title, found = self.solver.title_with_version(self.run.log), answer.found
         if corrected is not None:
             line = f"{title}, corrected: {corrected}"
@@ -240,7 +303,22 @@ class AnsweredRun:
         return line
 
     def _checked(self, answer: Answer, verdict: Evidence, lines: list[str], place: int) -> Returned:
-        """What is passed on and its .sol, with a line of what the proved program says of it."""
+        """What is passed on and its .sol.
+
+        Adds to the lines what the proved program says of its values.
+
+        With code 0, duals of the certificate take the place of duals that do not show what is
+        proved.
+
+        Args:
+            answer: What is to be passed on.
+            verdict: What is proved.
+            lines: The message so far, for the .sol; they grow.
+            place: Where among them a line on duals that are left out stands.
+
+        Raises:
+            Refusal: `bridge return` does not take the answer.
+        """
         returned = self.judge.returned(answer, lines, place=place)
         if not self.settings.certificate.check or answer.values is None:
             return returned
@@ -253,7 +331,12 @@ class AnsweredRun:
         return returned
 
     def _verdict(self, answer: Answer) -> Evidence:
-        """What is proved. A fault of the search leaves the answer as it stands."""
+        """What is proved of the answer; of check=0, or where a file or the search is at fault, why
+        nothing is.
+
+        Raises:
+            NotReturned: The proved program does not take the answer back.
+        """
         if not self.settings.certificate.check:
             return not_proved("check=0")
         try:
@@ -269,9 +352,17 @@ class AnsweredRun:
 
 
 def with_proved_duals(answer: Answer, verdict: Evidence, told: str) -> Answer | None:
-    """With code 0, the answer with the duals of the certificate where its own show no optimum, or no bound.
+    """An answer with code 0 with the duals of the certificate, where its own show no optimum, or no
+    bound.
 
-    None where no others are known. `told` is what `bridge check` says of its own.
+    Args:
+        answer: What is passed on.
+        verdict: What is proved; its duals are by the file's constraint.
+        told: What `bridge check` says of the answer's own duals, in words.
+
+    Returns:
+        None where its own are to stay: they show it, there are none, it has another code, or the
+            certificate has no others, or not one for each row.
     """
     own, duals = answer.found.duals, proved_duals(answer, verdict)
     if answer.code != Code.SOLVED or own is None or shows_its_claim(told, verdict.claim):
@@ -284,13 +375,24 @@ def with_proved_duals(answer: Answer, verdict: Evidence, told: str) -> Answer | 
 
 
 def shows_its_claim(told: str, claim: str) -> bool:
-    """Whether a .sol's own duals show what is proved, or its values are none, by the words of `bridge check`."""
+    """Whether a .sol needs no other duals: by the words of `bridge check` its own show what is
+    proved, or its values break the model.
+
+    Args:
+        told: These words: `yes V` where the duals show the optimum, `gap V W` where they show a
+            bound.
+        claim: The first word of what is proved; only of `optimal` the duals must show an optimum.
+    """
     shows = ("yes",) if claim == "optimal" else ("yes", "gap")
     return told.startswith(shows) or told.endswith(" is broken")
 
 
 def proved_gap_words(said: Statement | None) -> str:
-    """What is proved of a gap; "" where nothing is."""
+    """What is proved of a gap, for behind the solver's words; "" where not both a point and a bound
+    are proved.
+
+    The gap is |bound - value| / max(|bound|, |value|), in percent.
+    """
     if said is None or said.value is None or said.bound is None:
         return ""
     if said.bound == said.value:
@@ -300,7 +402,9 @@ def proved_gap_words(said: Statement | None) -> str:
 
 
 def words_of_first(first: SolverAnswer) -> str:
-    """What an answer was that the solver is asked once more for."""
+    """What an answer was that the solver is asked once more for, in words behind `its first
+    answer`.
+    """
     if first.status is SolverStatus.INFEASIBLE_OR_UNBOUNDED:
         return f"was `{first.text}`"
     return "does not satisfy the model"

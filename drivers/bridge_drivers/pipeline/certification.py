@@ -1,7 +1,8 @@
 """What is claimed and proved of an answer, and what is told of that.
 
-The last line of a message is the verdict of `bridge verify`, word for word, or `not proved: ..`. Nothing
-in it rests on this package: the certificate is a text about the model's file.
+The last line of a message is the verdict of `bridge verify`, word for word, or `not proved: ..`.
+Nothing in it rests on this package: the certificate is a text about the model's file.
+`answered_run` asks an `AnswerCertifier` for all of this.
 """
 
 from __future__ import annotations
@@ -54,14 +55,18 @@ CLAIM_OF_STATUS: Mapping[SolverStatus, AnswerClaim] = {
 
 
 class Returned(NamedTuple):
-    """An answer with its .sol, which is empty where none is made."""
+    """An answer as `bridge return` took it, perhaps without its duals, with its .sol, which is
+    empty where none is made.
+    """
 
     answer: Answer
     sol: bytes
 
 
 class WrittenNumbers(NamedTuple):
-    """Values and duals as texts, in the order of the file's variables and constraints."""
+    """Values and duals as decimals, in the order of the file's variables and constraints; the duals
+    are empty unless the program is continuous.
+    """
 
     values: list[str]
     duals: list[str]
@@ -75,11 +80,15 @@ class AnswerCertifier:
         model: The path of the model as the proved program reads it.
         run: The solver's run, with the program and a folder for files.
         settings: Those of the whole run.
-        monitor: Is told what goes on.
-        is_mps: The model is an MPS file, of which no .sol is made: values are judged by a certificate.
-        is_relaxed: Integer variables are relaxed.
-        is_interrupted: The search for a certificate was ended by the user.
-        pool_note: A line on the processes that searched.
+        monitor: Is told what goes on, and the seconds of each part.
+        program: That of the run.
+        is_mps: The model is an MPS file, of which no .sol is made: values are judged by a
+            certificate.
+        is_relaxed: The program has integer variables, and they are relaxed.
+        is_interrupted: The last search for a certificate was ended by the user.
+        pool_note: A line for the message on the processes that searched; "" where there is nothing
+            to say.
+        store: Keeps the certificate that is accepted.
     """
 
     def __init__(
@@ -105,9 +114,17 @@ class AnswerCertifier:
     def returned(
         self, answer: Answer, lines: list[str], name: str = "bridge", place: int = 0
     ) -> Returned:
-        """An answer and its .sol by `bridge return`, which is asked where a .sol is wanted or there are duals.
+        """An answer and its .sol by `bridge return`, which is asked where a .sol is wanted or there
+        are duals.
 
-        Where its duals are too wide it is without them, and a line says so, at `place` of the lines.
+        Where its duals are too wide it is returned without them, and a line says so. The text and
+        the .sol are written into the run's folder.
+
+        Args:
+            answer: What is passed on.
+            lines: The message so far, which the .sol has.
+            name: Of both files, without their ends.
+            place: Where in `lines` a line on duals that are left out is inserted.
 
         Raises:
             Refusal: The proved program does not take it.
@@ -130,9 +147,17 @@ class AnswerCertifier:
     def checked(self, returned: Returned, verdict: Evidence) -> str:
         """What the proved program says of the values and duals that are passed on, in words.
 
-        A .sol with the duals of a linear program is judged as it is, by `bridge check`. Values alone are
-        judged by a certificate: the accepted one where its point is these values, else one that claims
-        that they are feasible, and no more.
+        A .sol with the duals of a linear program is judged as it is, by `bridge check`. Values
+        alone are judged by a certificate: the accepted one where its point is these values, else
+        one that claims that they are feasible, and no more.
+
+        Args:
+            returned: What `returned` made last, whose .sol stands in the run's folder as
+                bridge.sol.
+            verdict: What is proved.
+
+        Returns:
+            As `check_words` and `feasible_words`; or why the proved program refuses it.
         """
         answer, sol = returned
         if not self.is_mps and answer.duals is not None and self.run.is_continuous():
@@ -149,12 +174,18 @@ class AnswerCertifier:
         return self._judged_values(values)
 
     def _values_of_file(self, answer: Answer) -> list[str]:
-        """The values of the file's variables: exported columns are these, and perhaps the objective's value."""
+        """The decimals of an answer's values by the file's variable, without the column of a
+        nonlinear objective's value; empty without a point.
+        """
         values = list(answer.values or ())
         return values[:-1] if self.program.names.columns[-1:] == [EPIGRAPH_COLUMN] else values
 
     def _judged_values(self, values: Sequence[str]) -> str:
-        """What the proved program says of a certificate that has values alone, in words."""
+        """What the proved program says of a certificate that has values alone, in words.
+
+        Args:
+            values: A decimal for each of the file's variables.
+        """
         objective = 0 if self.is_mps else self.settings.objective
         text = "\n".join(lines_of_answer(values, [], objective)) + "\n"
         path = self.run.write("values.certificate", text.encode())
@@ -171,10 +202,11 @@ class AnswerCertifier:
         return self.check_words(judged.line)
 
     def certify(self, answer: Answer) -> Evidence:
-        """What is proved by a search.
+        """What is proved of an answer by a search, at its end.
 
-        Where a large program has no certificate when the time of a search is over, the answer is tried as
-        it stands.
+        A long search, with other processes, is made with prove=1. Where a large program has no
+        certificate when the time of a search is over, the answer is tried as it stands. Sets
+        `is_interrupted` and `pool_note`.
         """
         settings = self.settings.certificate
         proves = settings.prove and not self.run.is_interrupted
@@ -200,7 +232,13 @@ class AnswerCertifier:
         return evidence
 
     def _deadline(self, *, is_search: bool) -> SearchDeadline:
-        """The time of a search: the limit, and of a short one a second of it, or more by the program's size."""
+        """The time of a search.
+
+        Args:
+            is_search: A long one: it has the limit, in seconds of the wall. Else it has a second of
+                the processor, or one for each LARGE_PROGRAM bytes of the program where that is
+                more, and at most the limit.
+        """
         limit = self.settings.time_limit or CERTIFICATE_SECONDS
         if is_search:
             return SearchDeadline(limit)
@@ -211,7 +249,10 @@ class AnswerCertifier:
     def _by_answer_itself(
         self, judge: CertificateJudge, answer: Answer, evidence: Evidence
     ) -> Evidence:
-        """The answer's own certificate where it is accepted, with what is known without it."""
+        """The answer's own certificate where it is accepted, else the evidence of the search.
+
+        The note of the search, its bound in doubles and an open ray are kept with the former.
+        """
         stands = self.from_answer_itself(judge, answer)
         if not stands.is_proved:
             return evidence
@@ -224,7 +265,22 @@ class AnswerCertifier:
     def searched(
         self, answer: Answer, judge: CertificateJudge, pool: WorkerPool | None, *, proves: bool
     ) -> Evidence:
-        """What the search proves, with duals of the rows as they are exported."""
+        """What the search proves of an answer, or why it proves nothing.
+
+        Duals are scaled both ways by the factors that `bridge export` multiplied rows by: the
+        search has the file's rows in whole numbers, the answer and the evidence here have the
+        exported ones. An interrupt in the search ends it alone.
+
+        Args:
+            answer: Whose status and numbers the search begins with.
+            judge: Of the certificates; its deadline is that of the search, and starts anew where
+                nothing is proved by a long one.
+            pool: Other processes that search; None for none.
+            proves: Whether long searches are wanted.
+
+        Returns:
+            Its duals are by the file's constraint.
+        """
         settings = self.settings.certificate
         options = SearchOptions(
             objective=self.settings.objective,
@@ -260,14 +316,20 @@ class AnswerCertifier:
         return evidence._replace(duals=exported)
 
     def _tell(self, progress: SearchProgress) -> None:
-        """What goes on in the search, for the line of progress."""
+        """Passes what the search is at on to the line of progress: its numbers, else its step in
+        words.
+        """
         if progress.numbers:
             self.monitor.progress.tell_numbers(progress.numbers)
         else:
             self.monitor.progress.tell(progress.step)
 
     def from_answer_itself(self, judge: CertificateJudge, answer: Answer) -> Evidence:
-        """The .sol's values and duals are the certificate, or the same numbers in fewer digits."""
+        """What is proved where the answer's values and duals as they are written are the
+        certificate, or else both rounded to PLACES decimals.
+
+        Only the rounded one has its point in the evidence.
+        """
         try:
             numbers = self.numbers(answer)
         except Refusal as fault:
@@ -284,7 +346,15 @@ class AnswerCertifier:
         return second._replace(point=list(map(Fraction, values)))
 
     def judged(self, judge: CertificateJudge, values: list[str], duals: list[str]) -> Evidence:
-        """The certificate that an answer is itself."""
+        """What the certificate proves that has these values as its point and these duals as its one
+        leaf.
+
+        Args:
+            judge: Is asked of it.
+            values: A decimal for each of the file's variables.
+            duals: One for each of its constraints; without duals the claim is that the values are
+                feasible.
+        """
         lines = list(lines_of_answer(values, duals, self.settings.objective))
         judgement = judge(lines)
         if not judgement.is_proved:
@@ -292,7 +362,12 @@ class AnswerCertifier:
         return Evidence(judgement.line, certificate=("\n".join(lines) + "\n").encode("ascii"))
 
     def numbers(self, answer: Answer) -> WrittenNumbers:
-        """The values and duals of an answer as they are written, duals of linear programs alone."""
+        """The values and duals of an answer as they are written: those of its .sol, where one is
+        made.
+
+        Raises:
+            Refusal: The proved program does not take the answer back.
+        """
         sol = self.returned(answer, [], "numbers").sol
         if sol:
             duals, values = read_sol(sol)
@@ -303,10 +378,16 @@ class AnswerCertifier:
     def closing_lines(
         self, verdict: Evidence, said: Statement | None, stored: StoredCertificate | None
     ) -> list[str]:
-        """The last lines of a message.
+        """The last lines of a message: the claim in words, what became of processes and
+        certificate, why no more is proved, and the verdict.
 
         A search that was asked for and cannot be made is told as `not proved`, with what is proved
         without it.
+
+        Args:
+            verdict: What is proved, or why nothing is.
+            said: The same as a claim with its numbers; None where nothing is proved.
+            stored: What was done with the certificate; None where none is wanted.
         """
         settings = self.settings.certificate
         lines = [*self.claim_words(said, verdict.note), self.pool_note]
@@ -321,7 +402,9 @@ class AnswerCertifier:
         return [line for line in (*lines, verdict.note, last) if line]
 
     def stored(self, verdict: Evidence) -> StoredCertificate | None:
-        """Keeps the accepted certificate where one is wanted; None where none is."""
+        """Keeps the accepted certificate where one is wanted, and says what was done; None where
+        none is wanted.
+        """
         target = self.settings.certificate.path
         if not target:
             return None
@@ -330,10 +413,15 @@ class AnswerCertifier:
         return self.store.store(verdict.certificate, verdict.line, target)
 
     def check_line(self, answer: Answer, verdict: Evidence, told: str) -> str:
-        """The line on what the proved program says of the values that are passed on, `told`.
+        """The line on what the proved program says of the values that are passed on.
 
-        Where the values round a proved point, what they miss is told as rounding, and why they say
-        another thing than an exact optimum.
+        Where the values round a proved point, what they miss is told as rounding, and so is why
+        they say another thing than an exact optimum.
+
+        Args:
+            answer: What is passed on.
+            verdict: What is proved.
+            told: The words of `checked`.
         """
         if told.endswith(" is broken"):
             told = self.broken_words(answer, verdict, told)
@@ -346,7 +434,16 @@ class AnswerCertifier:
         return f"bridge check of the {'.sol' if is_sol else 'values'}: {told}"
 
     def broken_words(self, answer: Answer, verdict: Evidence, told: str) -> str:
-        """By how much the values miss what they break."""
+        """By how much the values miss what they break, in place of words that end with `is broken`.
+
+        It is told as a share of a row's largest term, at least LEAST_SHARE. Up to
+        TOLERANCE_OF_INTEGERS, and where the exact point is proved, it is called rounding.
+
+        Args:
+            answer: What is passed on.
+            verdict: What is proved.
+            told: The words of `checked`.
+        """
         share = max(worst_residual(self.program, answer.values or []).relative, LEAST_SHARE)
         by = f"missed by more than {share:.2g} of its largest term"
         if verdict.is_proved and verdict.point is not None and answer.rounded_values:
@@ -356,7 +453,13 @@ class AnswerCertifier:
         return f"{told}; no row or bound is {by}"
 
     def claim_words(self, said: Statement | None, note: str = "") -> list[str]:
-        """The claim in words, where it says more than its line. `note` says why no more is proved."""
+        """A line with the claim in words, where it says more than the verdict does; none of a final
+        claim.
+
+        Args:
+            said: What is proved; None where nothing is.
+            note: Why no more is proved; "" where that is not known.
+        """
         if said is None or said.claim.is_final:
             return []
         lattice = None if self.is_relaxed else objective_lattice(self.program)
@@ -370,7 +473,9 @@ class AnswerCertifier:
         return ["in words: " + text]
 
     def check_words(self, line: str) -> str:
-        """A line of `bridge check`, or of `bridge verify` where it accepts no point, in words."""
+        """A line of `bridge check`, or of `bridge verify` where it accepts no point, in words, with
+        the user's names and decimals.
+        """
         words = line.split()
         if words[0] in ("yes", "gap"):
             return " ".join([words[0], *map(decimal_or_fraction, words[1:])])
@@ -384,18 +489,25 @@ class AnswerCertifier:
         return f"the reduced cost of {part} has no bound to rest on"
 
     def named_part(self, kind: str, number: int) -> str:
-        """A constraint (of the kind `row`) or variable, by its name where there is one."""
+        """A constraint (of the kind `row`) or variable (of any other) by its number in the file,
+        from 0, and its name where there is one.
+        """
         names = self.program.own_names
         return names.constraint(number) if kind == "row" else names.variable(number)
 
     def named_place(self, exported: str) -> str:
-        """A row or column of the exported text."""
+        """A row or column by its name in the exported text: c and x with the file's number.
+
+        All other names are told as the objective's row.
+        """
         kind, digits = "row" if exported.startswith("c") else "column", exported[1:]
         return self.named_part(kind, int(digits)) if digits.isdigit() else "the objective's row"
 
 
 def is_point(values: Sequence[str], point: Sequence[Fraction] | None) -> bool:
-    """Whether decimals, one for each variable of the file, are a point exactly."""
+    """Whether decimals, one for each variable of the file, are this point exactly; False without a
+    point.
+    """
     if point is None or len(point) != len(values):
         return False
     known = {text: Fraction(text) for text in set(values)}
@@ -403,11 +515,13 @@ def is_point(values: Sequence[str], point: Sequence[Fraction] | None) -> bool:
 
 
 def feasible_words(value: Fraction) -> str:
-    """That values are a feasible point, with their objective."""
+    """Words that values are a feasible point, with its objective in the objective's own sense."""
     return f"feasible, objective exactly {decimal_or_fraction(str(value))}"
 
 
 def rounded_parts(answer: Answer) -> str:
-    """What of an answer is only the nearest decimals of fractions, in words; "" where nothing is."""
+    """What of an answer is only the nearest decimals of fractions, in words: `values`, `duals` or
+    both; "" where nothing is.
+    """
     counts = {"values": answer.rounded_values, "duals": answer.rounded_duals}
     return " and ".join(name for name, count in counts.items() if count)

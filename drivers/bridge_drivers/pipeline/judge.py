@@ -1,4 +1,8 @@
-"""The judge of certificates that the search is given: `bridge verify`, by files."""
+"""The judge of certificates that the search is given: `bridge verify`, by files.
+
+`certification` makes one `CertificateJudge` for each search, which calls it with each certificate
+that it tries.
+"""
 
 from __future__ import annotations
 
@@ -13,7 +17,7 @@ from ..system.files import new_text
 
 
 class Unproved(NamedTuple):
-    """Why a certificate proves nothing, in words for a message."""
+    """Why a certificate proves nothing, in words for a message behind `not proved: `."""
 
     line: str
     is_proved: bool = False
@@ -23,6 +27,7 @@ class CertificateJudge:
     """Judges certificates of one model.
 
     Args:
+        bridge: The proved program; its messages call the file at `path` `the certificate`.
         model: Its path, as the proved program reads it.
         path: Of the file that certificates are written to, one after the other.
         deadline: Says how long a verdict may take, and is told that one is waited for.
@@ -36,7 +41,17 @@ class CertificateJudge:
         bridge.file_names[path] = "the certificate"
 
     def __call__(self, lines: Iterable[str]) -> Union[Verdict, Unproved]:
-        """What the proved program says of a certificate by its lines."""
+        """Writes a certificate and asks the proved program of it; the file stays until the next
+        one.
+
+        Args:
+            lines: Of the certificate, without their ends. All are taken, though they may be made as
+                they are written.
+
+        Returns:
+            The verdict where it is accepted; else why not: the program's line, its refusal, or that
+            the time was over.
+        """
         with new_text(self.path) as out:
             out.writelines(line + "\n" for line in lines)
         self.deadline.tell_step("bridge verify")

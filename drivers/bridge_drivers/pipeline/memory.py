@@ -1,4 +1,7 @@
-"""Models that are given in memory: as the bytes of a file, or as a program."""
+"""Models that are given in memory, as the bytes of a file or as a program, and by a path.
+
+The calls of the package take all three (`GivenModel`); commands have paths alone.
+"""
 
 from __future__ import annotations
 
@@ -19,8 +22,13 @@ NAME_IN_MEMORY = "the given model"
 def read_given_model(model: GivenModel, workspace: Workspace) -> Source:
     """The source of a model, as `read_model` reads one of a path.
 
-    Bytes and programs are read from a private file, beside which nothing is written; what they are is
-    told by their first bytes. Programs are judged as the MPS text that solvers get.
+    Bytes and programs are read from a private file of the workspace, beside which nothing is
+    written; what they are is told by their first bytes. Programs are judged as the MPS text that
+    solvers get.
+
+    Raises:
+        NoModel: There is no such file.
+        OSError, Damaged, TooLarge: It cannot be read.
     """
     if isinstance(model, LinearProgram):
         model = model.text
@@ -31,5 +39,5 @@ def read_given_model(model: GivenModel, workspace: Workspace) -> Source:
 
 
 def is_in_memory(model: GivenModel) -> bool:
-    """Whether no file can stand beside a model."""
+    """Whether a model is given without a path, so that no file can stand beside it."""
     return isinstance(model, (bytes, LinearProgram))

@@ -1,4 +1,9 @@
-"""What a run tells of itself while it goes on: to the library's log, and to the progress line."""
+"""What a run tells of itself while it goes on: to the library's log, to the progress line, and to a
+function of the caller.
+
+A `Monitor` goes through one run: `solve` makes it or is given it, and all that works in the run
+tells it.
+"""
 
 from __future__ import annotations
 
@@ -19,13 +24,13 @@ Numbers = Mapping[str, float]
 
 
 class ProgressEvent(NamedTuple):
-    """What is known while something goes on.
+    """What is known while something goes on, as functions given as `on_progress` get it.
 
     Attributes:
         stage: What goes on: the name of a solver, or `certificate`.
-        seconds: Since it began.
-        numbers: What is known, by name: `incumbent` and `bound` in the objective's own sense, `objective`
-            of a relaxation, `nodes`, `open`, `iterations`, `cuts`.
+        seconds: Since it began, of the wall.
+        numbers: What is known, by name: `incumbent` and `bound` in the objective's own sense,
+            `objective` of a relaxation, `nodes`, `open`, `iterations`, `cuts`.
     """
 
     stage: str
@@ -34,24 +39,36 @@ class ProgressEvent(NamedTuple):
 
     @property
     def incumbent(self) -> float | None:
-        """The objective of the best point that is known; None where none is."""
+        """The objective of the best point that is known, in its own sense; None where none is."""
         return self.numbers.get("incumbent")
 
     @property
     def bound(self) -> float | None:
-        """What no point is better than, as far as it is known; None where nothing is."""
+        """What no point is better than, in the objective's own sense and as far as the solver or
+        the search says; None where nothing is known.
+        """
         return self.numbers.get("bound")
 
 
 class ObservedProgress(Progress):
-    """Progress whose numbers are told to others too."""
+    """Progress whose numbers are told to the library's log and to a function, too.
+
+    Attributes:
+        on_progress: Is called with each event, in the thread of the run; None for none.
+    """
 
     def __init__(self, on_progress: Callable[[ProgressEvent], None] | None) -> None:
         super().__init__()
         self.on_progress = on_progress
 
     def tell_numbers(self, known: Numbers) -> None:
-        """To the line, to the log, and to the function that was given."""
+        """Tells the line, the log (at level DEBUG) and the function what is known by now.
+
+        An exception of the function is logged, and does not end the run.
+
+        Args:
+            known: Numbers by the names that `ProgressEvent` has.
+        """
         super().tell_numbers(known)
         event = ProgressEvent(self.stage, time.monotonic() - self.began, dict(known))
         PROGRESS_LOGGER.debug("%s: %s", event.stage, self.detail)
@@ -67,9 +84,11 @@ class Monitor(RunObserver):
 
     Attributes:
         name: The command that messages name.
-        seconds: What each part of the run has taken.
+        began: When the run began, by the monotonic clock.
+        seconds: What each part of the run has taken, of the wall, by the part's name.
         progress: What the run is at.
-        read_line: What a line of the solver's log tells, by name.
+        read_line: Gives the numbers that a line of the solver's log tells, by name; set once the
+            solver and its program are known.
     """
 
     def __init__(
@@ -84,7 +103,7 @@ class Monitor(RunObserver):
 
     @contextlib.contextmanager
     def timing(self, part: str) -> Iterator[None]:
-        """The time of a block counts for a part of the run."""
+        """A block whose seconds count for a part of the run, also where an exception ends it."""
         start = time.monotonic()
         try:
             yield
@@ -92,20 +111,29 @@ class Monitor(RunObserver):
             self.add_time(part, time.monotonic() - start)
 
     def add_time(self, part: str, spent: float) -> None:
-        """Seconds that a part of the run took."""
+        """Adds seconds to those that a part of the run took."""
         self.seconds[part] = self.seconds.get(part, 0.0) + spent
 
     def command_starts(self, argv: Sequence[str], folder: str = "") -> None:
+        """Logs a command that is started (level DEBUG): the run's seconds so far, its words, and
+        its folder.
+        """
         if LOGGER.isEnabledFor(logging.DEBUG):
             where = f"  (in {folder})" if folder else ""
             elapsed = time.monotonic() - self.began
             LOGGER.debug("%s: %.2f s: %s%s", self.name, elapsed, shlex.join(argv), where)
 
     def stage_begins(self, stage: str, limit: float) -> None:
+        """Shows the stage with its limit in seconds (0 for none), and forgets the numbers of the
+        stage before.
+        """
         self._known = {}
         self.progress.begin(stage, limit)
 
     def log_line(self, line: str) -> None:
+        """Logs a line of the solver's log (level INFO), and tells the progress all numbers that
+        were read so far where it has any.
+        """
         SOLVER_LOGGER.info("%s", line)
         found = self.read_line(line)
         if found:
@@ -113,10 +141,13 @@ class Monitor(RunObserver):
             self.progress.tell_numbers(self._known)
 
     def process_ended(self, spent: float) -> None:
+        """Counts the seconds of a solver's process for the part `solver`."""
         self.add_time("solver", spent)
 
     def summary(self) -> str:
-        """The seconds of each part, and of all, in a line."""
+        """A line with the seconds of the wall that each part, and all, took, and the driver's own
+        of the processor.
+        """
         parts = "".join(f"{part} {seconds:.2f}, " for part, seconds in self.seconds.items())
         return (
             f"{self.name}: seconds: {parts}all {time.monotonic() - self.began:.2f}; "
