@@ -5,6 +5,10 @@ A unit is what is left below some branches, with the nodes that are open in it. 
 fewer units than are wanted, the widest subtree of one that comes back, in which nobody is, becomes
 a unit of its own. What is proved comes together here: a branching node whose proof does not rest on
 one of its branches falls away, with what is worked of the sibling.
+
+A `ParallelSearch` is what each strategy of `portfolio` runs, and what searches a point beside an
+answer; without a pool it is one search in this process. A subtree is named by its place: the
+directions of the branches from the root to it, as digits.
 """
 
 from __future__ import annotations
@@ -43,12 +47,13 @@ class Subtree:
     """A part of the tree that is not proved.
 
     Attributes:
-        place: The directions of the branches that lead to it from the root, as digits.
-        open_nodes: Those in it that were worked partly.
-        bound: The dual bound of the node above it.
-        seconds: That it gets at least.
+        place: The directions of the branches that lead to it from the root, as digits 0 and 1.
+        open_nodes: From its root to where its search stands; none where nobody was in it yet.
+        bound: The dual bound of the node above it, minimised; minus infinity at the root.
+        seconds: That its next unit gets at least: above 0 after a unit that made no node.
         faults: Processes that died with it in a row.
-        is_dropped: Whether nothing rests on it any more.
+        is_dropped: Whether nothing rests on it any more, so that what comes back of it is not
+            taken.
     """
 
     place: str
@@ -59,6 +64,7 @@ class Subtree:
     is_dropped: bool = False
 
     def dual_bound(self) -> float:
+        """No point in it is better than this, minimised, as far as its relaxations say."""
         return least_open_bound(self.open_nodes, self.bound)
 
 
@@ -66,12 +72,15 @@ class ParallelSearch:
     """One search, which this process begins and a pool goes on with, where there is one.
 
     Attributes:
-        search: What this process works; it also closes what is left for a bound.
-        branches: By place, the branching nodes between the root and the subtrees.
+        search: What this process works; it also closes what is left for a bound. Its `nodes` are
+            those of the whole tree so far.
+        branches: By place, the branching nodes between the root and the subtrees; the direction of
+            each counts nothing.
         proved: By place, subtrees that are proved; all of the tree is at "".
         waiting: Subtrees that nobody works; the last is worked next.
-        running: Those that the pool works.
+        running: Those that the pool works; none between two calls of `resume`.
         reports_progress: Whether the deadline is told of it.
+        began: On the wall's clock, in seconds.
     """
 
     def __init__(
@@ -81,6 +90,13 @@ class ParallelSearch:
         deadline: SearchDeadline,
         pool: Optional[WorkerPool] = None,
     ) -> None:
+        """A search of all of the problem, at its root.
+
+        Args:
+            exact_point: Makes exact points in this process; processes of the pool have one of their
+                own.
+            pool: None: this process searches alone.
+        """
         self.problem = problem
         self.deadline = deadline
         self.pool = pool or WorkerPool(0)
@@ -96,11 +112,15 @@ class ParallelSearch:
 
     @cached_property
     def packed_problem(self) -> bytes:
+        """The problem's pickle, which all units have: by it a process knows a problem again."""
         return pickle.dumps(self.problem, pickle.HIGHEST_PROTOCOL)
 
     @property
     def dual_bound(self) -> float:
-        """That of what is not proved, as it was last seen: no better point is there, minimised."""
+        """That of what is not proved, as it was last seen: no better point is there, minimised.
+
+        It is infinite where all is proved, and minus infinity before the root has branched.
+        """
         return min((subtree.dual_bound() for subtree in self.subtrees()), default=math.inf)
 
     def resume(
@@ -108,12 +128,21 @@ class ParallelSearch:
     ) -> Union[Tree, ImprovedIncumbent]:
         """Goes on, until a second of the deadline or a count of nodes.
 
+        The first NODES_BEFORE_PARALLEL nodes are this process's own, then the pool goes on. Where
+        the pool fails, it is told so, and this process goes on alone.
+
+        Args:
+            until: As `SearchDeadline.spent` counts, from the deadline's own start.
+            most_nodes: Of the whole tree, not of this call.
+
         Returns:
-            The whole tree, or a point that is better than the cutoff.
+            The whole tree, or a point that is better than the cutoff. After a point the search
+            stands where it was found.
 
         Raises:
-            SearchPaused: It can go on.
-            SearchEnded: It cannot.
+            SearchPaused: The seconds or nodes are over; it can go on.
+            SearchEnded: It cannot: an interrupt, MOST_NODES, a tree that is too deep, a leaf that
+                does not close.
         """
         search, is_alone = self.search, not self.pool.workers
         search.until = until
@@ -133,25 +162,32 @@ class ParallelSearch:
         return self._run_here(search.run)
 
     def subtrees(self) -> List[Subtree]:
-        """What is not proved."""
+        """All that is not proved, whether it waits or is worked."""
         return [*self.waiting, *self.running.values()]
 
     def close_and_bound(self) -> float:
-        """The least dual bound of what waits, each open node solved once more.
+        """The least dual bound of what waits, minimised, each open node solved once more.
 
-        The search stands elsewhere then, and can still end at another cutoff.
+        Called between two calls of `resume`, for a bound that is to be proved. The node of `search`
+        stands elsewhere then; the subtrees keep their open nodes, so that it can still end at
+        another cutoff. Infinite where nothing is open that has a point.
         """
 
         def bound(subtree: Subtree) -> float:
+            """That of one subtree, to which the node of `search` moves."""
             self.search.node.move_to(self._path(subtree.place), subtree.open_nodes)
             return self.search.close_and_bound()
 
         return min(map(bound, self.waiting), default=math.inf)
 
     def finish_at_cutoff(self, cutoff: Cutoff) -> Optional[Tree]:
-        """The tree for a cutoff that is not better, where few nodes more are enough.
+        """The whole tree for a cutoff that is not better, where few nodes more are enough.
 
-        All that goes on afterwards is for that cutoff.
+        All that goes on afterwards is for that cutoff, and without a limit of time.
+
+        Returns:
+            None where more nodes would be needed, the search cannot go on, or a point is better
+            even than this cutoff.
         """
         try:
             found = self._run_here(lambda: self.search.finish_at_cutoff(cutoff))
@@ -160,7 +196,11 @@ class ParallelSearch:
         return None if isinstance(found, ImprovedIncumbent) else found
 
     def proved_share(self) -> float:
-        """The share of the tree that is proved, where both branches of a node count alike."""
+        """The share of the tree that is proved, from 0 to 1, where both branches of a node count
+        alike.
+
+        A portfolio forecasts by it how long a search still takes.
+        """
         open_nodes = (
             (len(subtree.place) + depth, node)
             for subtree in self.subtrees()
@@ -171,7 +211,11 @@ class ParallelSearch:
         )
 
     def report_progress(self) -> None:
-        """Tells the deadline of nodes, open nodes and the bound."""
+        """Tells the deadline of nodes, open nodes and the bound, in the objective's own sense.
+
+        The search calls it at nodes where the progress is due. Without a cutoff no bound is told,
+        and nothing where `reports_progress` is not set.
+        """
         if not self.reports_progress:
             return
         open_nodes = sum(1 + len(subtree.open_nodes) for subtree in self.subtrees())
@@ -181,7 +225,15 @@ class ParallelSearch:
         self.deadline.tell_numbers(**known)
 
     def _run_here(self, run: Callable[[], Found]) -> Union[Tree, ImprovedIncumbent]:
-        """By this process, one subtree after the other."""
+        """Works one subtree after the other in this process.
+
+        Args:
+            run: Works the subtree where the node of `search` then stands; what it raises goes on to
+                the caller, and the subtree waits with its open nodes.
+
+        Returns:
+            The whole tree, or the first better point.
+        """
         while "" not in self.proved:
             subtree = self.waiting[-1]
             self.search.node.move_to(self._path(subtree.place), subtree.open_nodes)
@@ -194,7 +246,21 @@ class ParallelSearch:
         return self.proved[""].tree
 
     def _run_in_pool(self, until: float) -> Union[Tree, ImprovedIncumbent]:
-        """By the pool; what is still worked when it ends goes back to where it was."""
+        """Works the subtrees by the pool; what is still worked when it ends goes back to where it
+        was.
+
+        Args:
+            until: A second of the deadline; units that are worked then have GRACE_SECONDS more to
+                come back.
+
+        Returns:
+            The whole tree, or the first better point.
+
+        Raises:
+            SearchPaused: The seconds or nodes are over; it can go on.
+            PoolFailed: The pool does not work; this process can go on alone.
+            SearchEnded: It cannot go on.
+        """
         improved = None
         try:
             while "" not in self.proved and improved is None:
@@ -213,14 +279,23 @@ class ParallelSearch:
         return self.proved[""].tree if improved is None else improved
 
     def _path(self, place: str) -> List[Branch]:
-        """The branches that lead to a place."""
+        """The branches that lead to a place, from the root, each in the direction that the place
+        says.
+        """
         return [
             self.branches[place[:depth]]._replace(direction=int(direction))
             for depth, direction in enumerate(place)
         ]
 
     def _split_subtree(self, subtree: Subtree) -> bool:
-        """Makes its widest part in which nobody is a subtree of its own; whether there is one."""
+        """Makes the widest part of a subtree in which nobody is a subtree of its own, which waits.
+
+        That is the open sibling nearest to its root. The subtree itself becomes what is below the
+        other branch; on the way down proved siblings go to `proved`, and the nodes to `branches`.
+
+        Returns:
+            Whether there was such a part.
+        """
         while subtree.open_nodes:
             branch, sibling = subtree.open_nodes[0]
             place = subtree.place
@@ -236,7 +311,12 @@ class ParallelSearch:
         return False
 
     def _close(self, place: str, proved: ProvedSubtree) -> None:
-        """A subtree is proved, and whatever is proved by it."""
+        """Enters in `proved` a subtree, which waits no more, joined upwards as far as its siblings
+        are proved.
+
+        A branch that a proof does not rest on falls away: then it proves the node above too. What
+        stands at and below each node that is proved so is dropped, also where it is worked.
+        """
         while place:
             above, direction = place[:-1], int(place[-1])
             depth, sibling = len(above), self.proved.get(f"{above}{1 - direction}")
@@ -251,7 +331,9 @@ class ParallelSearch:
         self.proved[place] = proved
 
     def _drop(self, place: str) -> None:
-        """All that stands at a place and below it."""
+        """Forgets the branches and proofs at a place and below it, and marks the subtrees there as
+        dropped.
+        """
         self.branches = {at: v for at, v in self.branches.items() if not at.startswith(place)}
         self.proved = {at: v for at, v in self.proved.items() if not at.startswith(place)}
         for subtree in self.subtrees():
@@ -259,16 +341,28 @@ class ParallelSearch:
         self._cancel_dropped()
 
     def _cancel_dropped(self) -> None:
-        """What nothing rests on is not worked any more, as far as that goes."""
+        """Takes dropped subtrees out of `waiting`, and cancels their units that no process has
+        begun. The others are not taken when they end.
+        """
         self.waiting = [subtree for subtree in self.waiting if not subtree.is_dropped]
         for future, subtree in self.running.items():
             if subtree.is_dropped:
                 future.cancel()
 
     def _submit_units(self, until: float) -> None:
-        """So that each process has a unit, and some wait: the least bounds first, then the widest."""
+        """Gives units to the pool, so that each process has one, and splits subtrees so that some
+        wait.
+
+        The least dual bounds go first, of equal ones the widest.
+
+        Args:
+            until: The second of the deadline at which units pause.
+        """
 
         def rank(subtree: Subtree) -> tuple[float, int]:
+            """What is least is split, and worked, first: by its dual bound, minimised, then by its
+            depth.
+            """
             return subtree.dual_bound(), len(subtree.place)
 
         wanted = self.pool.workers * (1 + WAITING_UNITS) - len(self.running)
@@ -282,6 +376,12 @@ class ParallelSearch:
             self.running[future] = self.waiting.pop()
 
     def _unit(self, subtree: Subtree, until: float) -> WorkUnit:
+        """What a process gets of a subtree: for UNIT_SHARE of the seconds of the wall since
+        `began`, within the limits of units, at least what the subtree asks, and not beyond `until`.
+
+        What is proved of siblings stays here; a RemoteSubtree stands for it, with its place among
+        the open nodes as the key, by which `_take` puts it back.
+        """
         seconds = max(UNIT_SHARE * (time.monotonic() - self.began), LEAST_UNIT_SECONDS)
         seconds = max(min(seconds, MOST_UNIT_SECONDS), subtree.seconds)
         seconds = min(seconds, max(until - self.deadline.spent(), 0.0))
@@ -294,7 +394,15 @@ class ParallelSearch:
         return WorkUnit(self.packed_problem, path, open_nodes, pseudocosts, seconds)
 
     def _collect(self) -> Optional[ImprovedIncumbent]:
-        """Takes what ends soon; a better point where one was found."""
+        """Waits up to POLL_SECONDS for a unit to end, and takes what ended.
+
+        Returns:
+            A better point where one was found; what else ended with it is worked again.
+
+        Raises:
+            SearchEnded: A unit cannot be worked.
+            PoolFailed: Too many processes died with a subtree.
+        """
         ended = wait(self.running, POLL_SECONDS, FIRST_COMPLETED).done
         for future in ended:
             subtree = self.running.pop(future)
@@ -307,11 +415,18 @@ class ParallelSearch:
         return None
 
     def _take(self, subtree: Subtree, future: Future[UnitResult]) -> Optional[ImprovedIncumbent]:
-        """What a unit made of its subtree. Where its process died it is worked again.
+        """Takes what a unit made of its subtree: open nodes, or the proof, and nodes and
+        pseudocosts.
+
+        The pseudocosts of the unit that came back last are those of all units that are made from
+        then on. Where the process died, the subtree stays as it was and is worked again.
+
+        Returns:
+            The better point where the unit found one; then the subtree stays as it was.
 
         Raises:
             SearchEnded: The unit cannot be worked.
-            PoolFailed: Too many processes died with it.
+            PoolFailed: Too many processes died with the subtree.
         """
         result = _result_of(subtree, future)
         if result is None or result.improved is not None:
@@ -335,7 +450,9 @@ class ParallelSearch:
         return None
 
     def _withdraw(self) -> None:
-        """Ends what is still worked; its subtrees wait again."""
+        """Ends what is still worked, and its subtrees wait again as they were sent. At the end of
+        each run of the pool.
+        """
         if self.running:
             self.pool.stop()
         self.waiting += [s for s in self.running.values() if not s.is_dropped]
@@ -344,11 +461,11 @@ class ParallelSearch:
 
 
 def _result_of(subtree: Subtree, future: Future[UnitResult]) -> Optional[UnitResult]:
-    """None where the process died, which is counted.
+    """The result of a unit that has ended; None where its process died, which its subtree counts.
 
     Raises:
         SearchEnded: The unit cannot be worked.
-        PoolFailed: Too many processes died with the subtree.
+        PoolFailed: More than MOST_FAULTS processes died with the subtree.
     """
     try:
         return future.result()
@@ -363,10 +480,14 @@ def _result_of(subtree: Subtree, future: Future[UnitResult]) -> Optional[UnitRes
 
 
 def _remote(key: int, proved: ProvedSubtree) -> ProvedSubtree:
-    """What stands for a proved subtree in another process."""
+    """What stands for a proved subtree in another process: its count of nodes, under this key, and
+    the depths that it rests on.
+    """
     return proved._replace(tree=[RemoteSubtree(key, node_count(proved.tree))])
 
 
 def _here(proved: ProvedSubtree, kept: Dict[int, Tree]) -> ProvedSubtree:
-    """A proof of another process, with the subtrees that were kept here."""
+    """A proof of another process, with the trees that were kept here, by key, in place of what
+    stood for them.
+    """
     return proved._replace(tree=with_remote(proved.tree, kept))

@@ -1,8 +1,10 @@
 """Exact points of programs: the vertex of a basis, short fractions near doubles, points around
 given integer columns, and rays.
 
-What is returned here is feasible by exact sums. In which order points are tried decides which one a
-certificate gets.
+What is returned here is feasible by exact sums, but for `basic_system`, which is only the equations
+of a basis. In which order points are tried decides which one a certificate gets. The certifiers ask
+for points near an answer, the searches for points near a relaxation's values. Values of columns, x,
+are in the program's own units: only bounds and coefficients stand over its scales.
 """
 
 from __future__ import annotations
@@ -40,9 +42,9 @@ class BasicSystem(NamedTuple):
         values: By column what those that are not basic stand at, over `bound_scale`; 0 where the
             column is basic.
         row_bounds: By row of `rows` the bound that it meets, over `bound_scale`.
-        matrix: The basic columns in these rows, over `row_scale`: pairs of a place in `columns`
-            and a coefficient, by place in `rows`.
-        rhs: What the basic columns, over `bound_scale`, sum up to, by place in `rows`; over
+        matrix: The basic columns in these rows, over `row_scale`: pairs of a place in `columns` and
+            a coefficient, by place in `rows`.
+        rhs: By place in `rows`: what the basic columns, over `bound_scale`, sum up to; over
             `row_scale` and `bound_scale`.
     """
 
@@ -55,11 +57,13 @@ class BasicSystem(NamedTuple):
 
 
 def basic_system(program: IntegerProgram, basis: Basis, x: Sequence[float]) -> BasicSystem:
-    """The equations of a basis.
+    """The equations of a basis, for its vertex and for the points of `basis`.
 
     Args:
+        basis: As CLP or a solver gives it; it need not be complete.
         x: By column: a column that is not basic stands at its bound near x, and a row at that near
-            the row's activity there.
+            the row's activity there. Where it has no bound, a column stands at 0 and a row is left
+            out.
     """
     scale = program.bound_scale
     is_basic = [False] * program.n
@@ -81,7 +85,12 @@ def basic_system(program: IntegerProgram, basis: Basis, x: Sequence[float]) -> B
 def _row_bounds_near(
     program: IntegerProgram, rows: Sequence[int], x: Sequence[float]
 ) -> Dict[int, int]:
-    """By row its bound near x; rows without a bound are left out."""
+    """By row its bound near x, over `bound_scale`; rows without a bound are left out.
+
+    Args:
+        rows: Those that are asked for. Only of a row with two different bounds the activity counts,
+            which is summed up in doubles.
+    """
     ranged = [i for i in rows if _is_ranged(program.row_lower[i], program.row_upper[i])]
     entries = program.matrix.submatrix(ranged, range(program.n)) if ranged else []
     activities = {i: sum([a * x[j] for j, a in row]) for i, row in zip(ranged, entries)}
@@ -95,18 +104,28 @@ def _row_bounds_near(
 
 
 def _is_ranged(lower: Bound, upper: Bound) -> bool:
+    """Whether there are two different bounds, so that a value decides between them."""
     return lower is not None and upper is not None and lower != upper
 
 
 def nearest_bound(lower: Bound, upper: Bound, value: float) -> Bound:
-    """The bound that is nearer to a value over the same scale; None where there is no bound."""
+    """The bound that is nearer to a value over the same scale, of two as near the lower one; None
+    where there is no bound.
+    """
     if lower is None or upper is None:
         return upper if lower is None else lower
     return lower if lower == upper or abs(lower - value) <= abs(upper - value) else upper
 
 
 def vertex(program: IntegerProgram, basis: Basis, x: Sequence[float]) -> Optional[Point]:
-    """The exact basic solution of a basis, as `basic_system` has it; None: it is not feasible."""
+    """The exact basic solution of a basis, as `basic_system` has it with x.
+
+    Basic columns that the equations leave free are 0.
+
+    Returns:
+        None where the equations have no solution, or take too long an elimination, or where the
+            solution is not feasible: integer columns must be whole in it, too.
+    """
     system = basic_system(program, basis, x)
     found = solve_exactly((dict(row), rhs) for row, rhs in zip(system.matrix, system.rhs))
     if found is None:
@@ -118,10 +137,14 @@ def vertex(program: IntegerProgram, basis: Basis, x: Sequence[float]) -> Optiona
 
 
 def nearby_points(program: IntegerProgram, x: Sequence[Number]) -> Iterator[Point]:
-    """Feasible points of short fractions near x.
+    """Feasible points of short fractions near x, the shortest first.
 
-    Where x is in fractions and feasible it is the only one. Values near a bound are first taken for
-    the bound.
+    Where x is in fractions and feasible it is the only one. Integer columns are rounded. Values
+    within NEAR_BOUND of a bound are first taken for the bound; then all is tried again without
+    that. No value is moved by more than NEAR_POINT.
+
+    Raises:
+        TimeOver: The time of exact work is over, before the next is tried.
     """
     given = [Fraction(v) for v in x]
     if all(isinstance(v, Fraction) for v in x) and program.is_feasible(given):
@@ -139,13 +162,20 @@ def nearby_points(program: IntegerProgram, x: Sequence[Number]) -> Iterator[Poin
 
 
 def _is_near(point: Point, x: Sequence[Fraction]) -> bool:
+    """Whether no value of the point is farther from that of x than NEAR_POINT of its size, or of 1."""
     return all(abs(v - near) <= NEAR_POINT * max(ONE, abs(near)) for v, near in zip(point, x))
 
 
 def _short_value(
     program: IntegerProgram, column: int, value: Fraction, largest: int, tolerance: Fraction
 ) -> Fraction:
-    """A bound that is within the tolerance, else a fraction with a denominator up to `largest`."""
+    """One value of a point near x: of an integer column the nearest whole number, else a bound
+    within the tolerance, else the nearest fraction with a denominator up to `largest`.
+
+    Args:
+        tolerance: As a share of the bound's size, or of 1; at 0 only the bound itself is taken for
+            it.
+    """
     if program.is_integer[column]:
         return Fraction(round(value))
     for bound in program.finite_bounds(column):
@@ -155,7 +185,7 @@ def _short_value(
 
 
 def best_nearby_point(program: IntegerProgram, x: Sequence[Number]) -> Optional[Point]:
-    """The best of the points near x; None where there is none."""
+    """The best, by its objective, of all the points near x; None where there is none."""
     found = list(nearby_points(program, x))
     return min(found, key=program.value) if found else None
 
@@ -165,8 +195,12 @@ def point_with_integers(
 ) -> Optional[Point]:
     """The best exact point that has the integer columns of x, else one that is near.
 
+    A search asks for it at a relaxation's values, and a certifier at an answer's.
+
     Args:
-        deadline: For CLP, which looks for the other columns.
+        x: By column; integer columns are rounded where they are within INTEGER_TOLERANCE of whole
+            numbers.
+        deadline: For CLP's solve, which looks for the other columns.
 
     Returns:
         None where the integer columns of x are not near whole numbers, or no point is found.
@@ -183,7 +217,15 @@ def point_with_integers(
 def _best_with_fixed(
     program: IntegerProgram, fixed: Mapping[int, Fraction], deadline: Deadline
 ) -> Optional[Point]:
-    """The optimum under fixed columns; where it is too wide for a certificate, a point near it."""
+    """The optimum under fixed columns; where it is too wide for a certificate, a point near it, and
+    only where there is none that optimum all the same.
+
+    Args:
+        fixed: Values by column, of the integer columns.
+
+    Returns:
+        None where CLP is not installed or finds no optimum, or no exact point is near it.
+    """
     if library() is None:
         return None
     around = with_fixed(program, fixed)
@@ -198,14 +240,16 @@ def _best_with_fixed(
 
 
 def rounded_integers(program: IntegerProgram, x: Sequence[Number]) -> Dict[int, Fraction]:
-    """The integer columns of x, by column, as whole numbers."""
+    """The integer columns of x, by column, as the nearest whole numbers."""
     return {
         j: Fraction(round(x[j])) for j, is_integer in enumerate(program.is_integer) if is_integer
     }
 
 
 def with_fixed(program: IntegerProgram, fixed: Mapping[int, Fraction]) -> IntegerProgram:
-    """The program whose columns have these values, where they are given."""
+    """The same program, but that the columns named in `fixed` have these values as both bounds. The
+    values are whole over `bound_scale`, and may be outside of the columns' own bounds.
+    """
     scale = program.bound_scale
     lower = [int(fixed[j] * scale) if j in fixed else v for j, v in enumerate(program.lower)]
     upper = [int(fixed[j] * scale) if j in fixed else v for j, v in enumerate(program.upper)]
@@ -215,12 +259,15 @@ def with_fixed(program: IntegerProgram, fixed: Mapping[int, Fraction]) -> Intege
 def restricted_to(
     program: IntegerProgram, x: Sequence[Number], *, frees_equations: bool
 ) -> IntegerProgram:
-    """The program near an answer: its integer columns have the values of the answer.
+    """The program near an answer: its integer columns have the values of the answer, rounded.
 
-    Those of more digits than solvers print may differ in what is not printed.
+    Those of more digits than solvers print (from 1 / NEAR_POINT on) may differ by as much as is not
+    printed. The columns' own bounds hold too. For a search of few nodes beside an answer that
+    breaks rows.
 
     Args:
-        frees_equations: Columns that have a cost and stand in an equation keep their bounds.
+        frees_equations: Columns that have a cost and stand in an equation keep their own bounds:
+            such a column is often given by its equation.
     """
     free = _columns_of_equations(program) if frees_equations else set()
     lower, upper = list(program.lower), list(program.upper)
@@ -236,7 +283,7 @@ def restricted_to(
 
 
 def _columns_of_equations(program: IntegerProgram) -> set[int]:
-    """Those that have a cost."""
+    """The columns, integer or not, that have a cost and stand in an equation."""
     return {
         j
         for row, lower, upper in zip(program.rows, program.row_lower, program.row_upper)
@@ -249,10 +296,14 @@ def _columns_of_equations(program: IntegerProgram) -> set[int]:
 def integers_are_infeasible(
     program: IntegerProgram, x: Sequence[Number], deadline: Deadline
 ) -> bool:
-    """Whether CLP finds no values of the other columns for the integer ones of x.
+    """Whether CLP finds no values of the other columns for the integer ones of x, rounded.
 
-    Both of its simplex methods must say so. Where there are no other columns, or no CLP, nothing is
-    found out.
+    Both of its simplex methods must say so, by their tolerances: it is no proof. Where there are no
+    other columns, or no CLP, nothing is found out and the answer is False. Called where no exact
+    point has the answer's integer columns.
+
+    Args:
+        deadline: For each of the two solves.
     """
     if all(program.is_integer) or library() is None:
         return False
@@ -263,10 +314,13 @@ def integers_are_infeasible(
 
 
 def integer_residual(program: IntegerProgram, x: Sequence[Number]) -> Fraction:
-    """The largest residual of what integer columns alone decide, at the integer columns of x.
+    """The largest residual of what integer columns alone decide, at the integer columns of x,
+    rounded.
 
-    Those are their bounds, and the rows that have no other columns. Each residual is a share of the
-    largest term of its row, or of the column's value.
+    That is of their bounds, and of the rows that have no other columns. Each residual is a share of
+    the largest term of its row (a column counts at least 1 in it), of the activity or of the bound;
+    of a column's bound, a share of the larger of its value, the bound and 1. It is 0 where nothing
+    is missed; a certifier tells by it whether the answer itself breaks rows.
     """
     fixed = rounded_integers(program, x)
     scale = program.bound_scale
@@ -284,7 +338,10 @@ def integer_residual(program: IntegerProgram, x: Sequence[Number]) -> Fraction:
 
 
 def _relative_violation(value: Fraction, lower: Bound, upper: Bound, size: Fraction) -> Fraction:
-    """What a value misses its bounds by, as a share of the largest of it, the bound and `size`."""
+    """What a value misses its bounds by, as a share of the largest of it, the bound and `size`; 0
+    where it misses none. All stand over the same scale, and `size` is above 0 where both others may
+    be 0.
+    """
     bound = value
     if lower is not None and value < lower:
         bound = Fraction(lower)
@@ -294,20 +351,27 @@ def _relative_violation(value: Fraction, lower: Bound, upper: Bound, size: Fract
 
 
 def is_ray(cone: IntegerProgram, direction: Point) -> bool:
-    """Whether it has no end, and improves the objective.
+    """Whether a direction improves the objective and has no end: all points of a ray along it are
+    feasible where one is.
 
     Args:
         cone: As `IntegerProgram.recession_cone` makes it.
+        direction: Of any length; it is judged at the length where its largest entry is 1.
     """
     size = max((abs(v) for v in direction), default=ZERO) or ONE
     return cone.value(direction) < 0 and cone.is_feasible([v / size for v in direction])
 
 
 def find_ray(cone: IntegerProgram) -> Optional[Point]:
-    """An improving direction without end, in short fractions where they do; None: CLP has none.
+    """An improving direction without end, in short fractions where they do, else the exact vertex
+    of the cone.
 
     Args:
-        cone: As above.
+        cone: As `IntegerProgram.recession_cone` makes it.
+
+    Returns:
+        None where the optimum of CLP is not below 0, or is not found, or neither way makes a ray of
+        it.
     """
     clp = relaxation(cone)
     if clp.solve() is not LpStatus.OPTIMAL or clp.objective() >= 0:

@@ -5,6 +5,11 @@ branches on forms of a reduced lattice beside columns. The strategy that seems t
 What else is tried, cuts that are made and strategies below them, has a share of the seconds that
 this one seems to need in all. The first tree is told; where a short text is wanted, all go on for
 some times as long and the shortest is told, since cuts make some trees longer.
+
+`CertificationTask.portfolio` makes a `Portfolio`: for the value of a point by `integer_certifier`,
+for a refutation by `refutations`. What it finds is a `TreeText`, or where the time was over a
+`ProvedBound`. All seconds are those of the deadline's clock, which is the wall's or the
+processor's.
 """
 
 from __future__ import annotations
@@ -61,13 +66,14 @@ LATTICE_TOLERANCE = 1e-6  # spacings, by which a bound may be beyond a value of 
 
 
 class TreeText(NamedTuple):
-    """The text of a tree, below its cuts.
+    """The text of a tree, with the cuts that it uses: what stands in a certificate between its head
+    and its end.
 
     Attributes:
-        text: Lines, each with its end.
-        nodes: In the text.
-        cuts: In the text.
-        strategy: That found it.
+        text: Lines, each with its end; ASCII.
+        nodes: In the text, those of the cuts' proofs too.
+        cuts: In the text: only those that the tree needs.
+        strategy: The name of the one that found it.
     """
 
     text: str
@@ -77,10 +83,11 @@ class TreeText(NamedTuple):
 
     @property
     def size(self) -> int:
-        """In bytes."""
+        """In bytes; the shortest tree is the one with the least."""
         return len(self.text)
 
     def lines(self) -> Iterator[str]:
+        """The text's lines, without their ends."""
         start = 0
         while start < len(self.text):
             end = self.text.index("\n", start)
@@ -97,18 +104,21 @@ class ProvedBound(NamedTuple):
 
 @dataclass
 class Strategy:
-    """A search that can go on.
+    """A search that can go on, with what it took so far.
 
     Attributes:
         name: As it is told.
         cuts: That the search stands below.
+        search: Paused at the end of each turn.
         spent: Seconds so far.
-        first_estimate: Seconds that it takes, before its tree says so.
-        correction: By which its estimates were too low.
-        report: How its last turn ended.
+        first_estimate: Seconds that it seems to take in all, until some of its tree is proved.
+        correction: A factor above 1 where its estimates were too low.
+        report: How its last turn ended, behind its name: why it was paused or failed, or the size
+            of its tree; empty before.
         has_ended: Whether it cannot go on: it has its tree, or it failed.
-        tree: Where it has one.
-        proved_value: For which it has proved leaves, where that is not as good as the portfolio's.
+        tree: The text, where it has one.
+        proved_value: The value, minimised, at which a bound was last tried: leaves that are proved
+            since then hold only up to it, so that no later one is above it. None before.
     """
 
     name: str
@@ -123,7 +133,11 @@ class Strategy:
     proved_value: Optional[Fraction] = None
 
     def estimated_seconds(self) -> float:
-        """That are left, by the share of the tree that is proved."""
+        """Seconds that are left, at least LEAST_ESTIMATE: as many as so far for each such share of
+        the tree as is proved.
+
+        Without any share, `first_estimate` says it, which may be infinite.
+        """
         share = self.search.proved_share()
         rest = self.spent * (1 - share) / share if share else self.first_estimate
         return max(rest, LEAST_ESTIMATE) * self.correction
@@ -134,39 +148,51 @@ class Preparation:
 
     Attributes:
         names: Of strategies that are still to be prepared, in order.
-        cuts: Made so far for the first of them.
-        closed_share: Of the gap, by these.
-        vain_attempts: In a row that closed no more.
+        cuts: Made so far for the first of them; those that were there before included.
+        closed_share: Of the gap between root bound and value, by these.
+        vain_attempts: How many in a row closed no more.
     """
 
     def __init__(self, names: Sequence[str]) -> None:
+        """Nothing is made yet of these strategies, of which the first is prepared first."""
         self.names = list(names)
         self.begin_next()
 
     def begin_next(self) -> None:
-        """Of the first of the names nothing is made yet."""
+        """Begins with what is now the first of the names: of that nothing is made yet."""
         self.cuts: List[ProvedCut] = []
         self.closed_share = 0.0
         self.vain_attempts = 0
 
     def add(self, cuts: List[ProvedCut], closed_share: float) -> None:
+        """Takes the cuts that some seconds made; they replace those before. It was in vain where
+        they close not even LEAST_CLOSED_SHARE of the gap more.
+        """
         is_vain = closed_share < self.closed_share + LEAST_CLOSED_SHARE
         self.cuts = cuts
         self.vain_attempts = self.vain_attempts + 1 if is_vain else 0
         self.closed_share = closed_share
 
     def is_in_vain(self) -> bool:
+        """Whether more than MOST_VAIN_ATTEMPTS in a row were in vain."""
         return self.vain_attempts > MOST_VAIN_ATTEMPTS
 
 
 class Portfolio:
     """Searches trees that no point is better than a value, or that there is no point at all.
 
+    Called are `race` or `run_plain`, once, and then `prove_bound` where there is no tree.
+
     Attributes:
-        objective: That value.
-        strategies: That were begun.
+        lattice: Of the objective; None where it has none.
+        objective: The value, as cutoff of the searches and as a row.
+        cut_loop: Makes cuts, from `_prepare`.
+        strategies: That were begun, the plain one first.
         best: The tree with the shortest text so far.
+        started: The second of the deadline at which it began.
+        end: Seconds after `started` at which a shorter tree is not looked for any more.
         has_no_value: Whether there is to be no point: then there is no gap to be seen.
+        preparation: What further strategies are still to have.
     """
 
     def __init__(
@@ -179,11 +205,13 @@ class Portfolio:
         shortens: bool = False,
         pool: Optional[WorkerPool] = None,
     ) -> None:
-        """
+        """Nothing is searched yet.
+
         Args:
             value: Of the objective, minimised; None: there is to be no point.
+            exact_point: Makes exact points of relaxations' values.
             shortens: After a tree, look for a shorter one.
-            pool: Other processes that search.
+            pool: Other processes that search; None: this one alone.
         """
         self.program = program
         self.exact_point = exact_point
@@ -202,16 +230,25 @@ class Portfolio:
 
     @property
     def dual_bound(self) -> float:
-        """The best that a search has told: no point is better, minimised."""
+        """The best that a search has told: no point is better, minimised, as far as CLP's doubles
+        go. Minus infinity before there is one.
+        """
         return max((strategy.search.dual_bound for strategy in self.strategies), default=-math.inf)
 
     def reports(self) -> List[str]:
+        """How each strategy that had a turn ended its last one, in the order of their beginnings."""
         return [strategy.report for strategy in self.strategies if strategy.report]
 
     def begin(
         self, name: str, cuts: Sequence[ProvedCut] = (), forms: Sequence[Dict[int, int]] = ()
     ) -> Strategy:
-        """A further strategy, which has searched nothing yet."""
+        """Adds a strategy, which has searched nothing yet.
+
+        Args:
+            name: PLAIN, MIR, CLIQUE or THIN.
+            cuts: Rows that its search stands below, behind the objective's.
+            forms: To branch on beside columns: whole coefficients by column.
+        """
         above: List[Row] = [*self.objective.open_rows(), *(cut.row() for cut in cuts)]
         problem = SearchProblem(self.program, above, forms, self.objective.cutoff)
         search = ParallelSearch(problem, self.exact_point, self.deadline, self.pool)
@@ -221,7 +258,18 @@ class Portfolio:
     def resume(
         self, strategy: Strategy, budget: float, most_nodes: int = MOST_NODES
     ) -> Optional[ImprovedIncumbent]:
-        """Goes on with a strategy, for so many seconds or nodes; a better point where it has one."""
+        """Goes on with a strategy, for so many seconds or nodes.
+
+        It adds to the strategy's `spent`, sets its report, and ends it where it has a tree or
+        failed: then also `best`, where the tree is shorter.
+
+        Args:
+            budget: Seconds; a reserve of the deadline is left however many they are.
+            most_nodes: Of its tree in all.
+
+        Returns:
+            A point that is better than the value, where one was found.
+        """
         if strategy.has_ended:
             return None
         began = self.deadline.spent()
@@ -239,10 +287,13 @@ class Portfolio:
         return None
 
     def race(self) -> Optional[ImprovedIncumbent]:
-        """All strategies in turns, until there is a tree, or no time.
+        """Runs all strategies in turns, until there is a tree, a better point, or no time.
+
+        The answer is in `best`; it restarts `started`. Without a tree `reports` say why, and the
+        paused searches can prove a bound.
 
         Returns:
-            A point that is better than the value, where one was found.
+            A point that is better than the value, where one was found; then nothing goes on.
         """
         self.started = self.deadline.spent()
         improved = self.resume(self.begin(PLAIN), self.seconds_left(), FIRST_NODES)
@@ -259,10 +310,13 @@ class Portfolio:
         return improved
 
     def run_plain(self) -> Optional[ImprovedIncumbent]:
-        """The plain search alone, as a run without a search for proofs has it.
+        """Runs the plain search alone, in short turns, as a run without a search for proofs has it.
 
         No progress is told of a bound that might be lost with its time, and on a busy machine some
-        seconds are left to prove it.
+        seconds are left to prove it. The tree is in `best`.
+
+        Returns:
+            A point that is better than the value, where one was found.
         """
         strategy = self.begin(PLAIN)
         strategy.search.reports_progress = False
@@ -277,23 +331,34 @@ class Portfolio:
         return improved
 
     def seconds_left(self) -> float:
-        """For strategies: a share of all seconds is for a bound."""
+        """For strategies: what is left of the deadline but for RESERVE of all its seconds, which is
+        for a bound. May be negative; infinite without a limit.
+        """
         if self.deadline.seconds == math.inf:
             return math.inf
         return self.deadline.left() - RESERVE * self.deadline.seconds
 
     def until(self, budget: float) -> float:
-        """The second of the deadline after this budget, as far as there is time."""
+        """The second of the deadline after this budget of seconds, as far as there is time; now
+        where there is none.
+        """
         return self.deadline.spent() + max(0.0, min(budget, self.seconds_left()))
 
     def seconds_so_far(self) -> float:
+        """Since `started`, of all strategies and of what is prepared."""
         return self.deadline.spent() - self.started
 
     def time_for_others(self, first: Optional[Strategy]) -> float:
-        """Seconds for what is not the first strategy.
+        """Seconds that may go now to what is not the first strategy; negative where it had more
+        than its share.
 
-        That is a share of all seconds that the first seems to need, less what went to others, and
-        not more than half of what is left of it. Without a value some are there at once.
+        That is OTHERS_SHARE of all seconds that the first seems to need, less what went to others,
+        and not more than half of what is left of it. Without a value at least FIRST_CUT_SECONDS,
+        less what went to others, are there at once.
+
+        Args:
+            first: The strategy that seems to end first; None: there is none, and others have all
+                the time.
         """
         if first is None:
             return math.inf
@@ -306,9 +371,17 @@ class Portfolio:
     def take_turn(
         self, strategy: Strategy, first: Strategy, seconds_for_others: float
     ) -> Optional[ImprovedIncumbent]:
-        """One strategy goes on, at most twice as long as its estimate, or as it had so far.
+        """One strategy goes on, for as long as it had so far, but at most twice its estimate; at
+        least TURN_SECONDS, not past `end`, and one that is not the first no longer than there is
+        time for others.
 
-        A strategy that takes longer than it seemed to has its estimates corrected.
+        The estimates of a strategy that takes longer than it seemed to are corrected.
+
+        Args:
+            seconds_for_others: As `time_for_others` says.
+
+        Returns:
+            A point that is better than the value, where one was found.
         """
         estimate = strategy.estimated_seconds()
         seconds = max(min(strategy.spent, 2 * estimate), TURN_SECONDS)
@@ -321,10 +394,16 @@ class Portfolio:
         return improved
 
     def prove_bound(self) -> Optional[ProvedBound]:
-        """The best bound of the paused searches that can be proved. Its search cannot go on.
+        """The best bound of the paused searches that can be proved, the closest dual bound first;
+        None where none can.
 
-        Each search is ended at its own bound, minimised and a little lower, so that each open node
-        is proved by few nodes.
+        Called where the time is over and there is no tree; it may be called again, for the next.
+        Each search is ended at its own bound, rounded by `rounded_bound` and lowered by the
+        LOWERINGS in turn until each open node is proved by few nodes. The strategy that proves it
+        is taken out of `strategies`; a search that was tried cannot go on.
+
+        Raises:
+            TimeOver: The time of exact work is over.
         """
         for strategy in sorted(self.strategies, key=lambda s: -s.search.dual_bound):
             bound = strategy.search.close_and_bound()
@@ -342,10 +421,15 @@ class Portfolio:
         return None
 
     def rounded_bound(self, bound: float) -> Fraction:
-        """A bound of the relaxation in few digits, not above the value.
+        """A bound of the relaxation as an exact number that is short to write, not above the value.
 
-        Where the objective has a lattice, the next value of it. Never below what bounds of columns
-        alone say.
+        Where the objective has a lattice, it is the lattice's next value from there upwards, since
+        no point lies between (LATTICE_TOLERANCE of its spacing is doubles' error). Else it is
+        rounded downwards to BOUND_DIGITS digits of the gap to the value. It is never below what
+        bounds of columns alone say. It proves nothing itself: a tree at it as cutoff does.
+
+        Args:
+            bound: Minimised, with the constant; infinite, or not a number: the value is returned.
         """
         value, lattice = self.objective.value, self.lattice
         assert value is not None
@@ -364,6 +448,9 @@ class Portfolio:
         return min(found if least is None else max(found, least), value)
 
     def _end_with_tree(self, strategy: Strategy, tree: Tree) -> None:
+        """Ends a strategy that has its tree: sets its `has_ended`, `tree` and `report`, and `best`
+        where no tree before has as short a text.
+        """
         strategy.has_ended = True
         text = self._text(strategy, self.objective, tree)
         strategy.tree = text
@@ -374,13 +461,22 @@ class Portfolio:
             self.best = text
 
     def _text(self, strategy: Strategy, objective: ObjectiveCutoff, tree: Tree) -> TreeText:
+        """The text of a strategy's tree, with the cuts that it needs.
+
+        Args:
+            objective: The cutoff that the tree is for: the portfolio's, or that of a bound.
+        """
         searched = strategy.search.search.program
         made = CertificateWithCuts(self.program, searched, objective, strategy.cuts, tree)
         text = "".join(line + "\n" for line in made.lines())
         return TreeText(text, made.nodes(), len(made.kept), strategy.name)
 
     def _goes_on(self) -> bool:
-        """Whether there is anything more to be had, and time."""
+        """Whether there is anything more to be had, and time.
+
+        After a tree it goes on only where a shorter one is wanted and this one has more than
+        SHORT_TREE nodes; then it sets `end` to some times the seconds so far.
+        """
         if self.best is not None:
             if not self.shortens or self.best.nodes <= SHORT_TREE:
                 return False
@@ -389,7 +485,15 @@ class Portfolio:
         return seconds > 0 and not self.deadline.is_interrupted
 
     def _likely_first(self, live: Sequence[Strategy]) -> Optional[Strategy]:
-        """The strategy that seems to end first; after a tree only one that seems to end in time."""
+        """The strategy that seems to end first; after a tree only one that seems to end in time, or
+        had no turn yet.
+
+        Args:
+            live: Those that have not ended.
+
+        Returns:
+            None where there is no such strategy.
+        """
         candidates = [
             strategy
             for strategy in live
@@ -400,7 +504,14 @@ class Portfolio:
         return min(candidates, key=lambda s: s.estimated_seconds()) if candidates else None
 
     def _is_preparation_due(self, budget: float) -> bool:
-        """Whether more is made now. A lattice comes late, but at once where there is no value."""
+        """Whether more is made now for a further strategy, in place of a turn.
+
+        It is where no strategy goes on, else for cuts as soon as LEAST_CUT_SECONDS are there. A
+        lattice comes late, after LATTICE_AFTER_SECONDS of all, but at once where there is no value.
+
+        Args:
+            budget: As `time_for_others` says; infinite where no strategy goes on.
+        """
         names = self.preparation.names
         if not names:
             return False
@@ -411,7 +522,15 @@ class Portfolio:
         return budget >= LEAST_CUT_SECONDS and not is_early
 
     def _prepare(self, budget: float) -> None:
-        """Some seconds of the first preparation; where it is done a strategy begins."""
+        """Makes some seconds of the first preparation; where that is done a strategy begins, if it
+        is worth one.
+
+        A lattice is reduced at once and to its end. Where even the root relaxation has no optimum,
+        no cuts are made.
+
+        Args:
+            budget: Seconds that there are for it.
+        """
         name = self.preparation.names[0]
         if name == THIN:
             self.preparation.names.pop(0)
@@ -425,7 +544,18 @@ class Portfolio:
             self._make_cuts(name, budget)
 
     def _make_cuts(self, name: str, budget: float) -> None:
-        """Some seconds of cuts. They are done when they end by themselves, in vain, or close much."""
+        """Makes some seconds of cuts below those that are there: the ones made before, else those
+        of the strategy with MIR cuts.
+
+        They are done when the loop ends by itself, when they are in vain, or when they close so
+        much of the gap that the rest will be short. Then their strategy begins, where they close at
+        least LEAST_CLOSED_SHARE of the gap or there is no value to see that by, and the next is
+        prepared.
+
+        Args:
+            name: The strategy's, whose kinds of cuts are made.
+            budget: Seconds; not more are taken than so far in all, or FIRST_CUT_SECONDS.
+        """
         loop, preparation = self.cut_loop, self.preparation
         root_bound = loop.dual_bound
         until = self.until(min(budget, max(self.seconds_so_far(), FIRST_CUT_SECONDS)))
@@ -446,7 +576,12 @@ class Portfolio:
         preparation.begin_next()
 
     def _estimate_below_cuts(self, closed_share: float) -> float:
-        """Seconds of a search below cuts that close so much of the gap, by those without cuts."""
+        """Seconds that a search below cuts seems to take: those that are left of the plain one, by
+        SHARE_OF_REST of the gap that is left.
+
+        Args:
+            closed_share: Of the gap, by the cuts.
+        """
         if self.has_no_value:
             return TURN_SECONDS
         forecast = FARTHEST_FORECAST * self.seconds_so_far()
@@ -454,9 +589,12 @@ class Portfolio:
         return without_cuts * SHARE_OF_REST * max(1 - closed_share, 0.0)
 
     def _lattice_forms(self) -> List[Dict[int, int]]:
-        """The forms to branch on beside columns, of pure integer programs that are small.
+        """The forms to branch on beside columns, as whole coefficients by column; none unless all
+        columns are integer and at most MOST_LATTICE_COLUMNS.
 
-        The objective's form has the width between the last relaxation and the value.
+        Where the objective has a lattice, its own form counts too, with the width between the last
+        relaxation of `cut_loop` and the value, in spacings of the lattice; before that relaxation
+        has an optimum there are no forms.
         """
         program, lattice = self.program, self.lattice
         is_integer = program.is_integer
@@ -473,7 +611,12 @@ class Portfolio:
 
 
 def _next_turn(live: Sequence[Strategy], first: Strategy, budget: float) -> Strategy:
-    """The first strategy, or where there is time for others the one that had least."""
+    """The first strategy, or where there is time for a turn of another, the one that had least.
+
+    Args:
+        live: Those that have not ended, `first` too.
+        budget: Seconds for others, as `Portfolio.time_for_others` says.
+    """
     if budget < TURN_SECONDS:
         return first
     others = [strategy for strategy in live if strategy is not first]
