@@ -4,6 +4,9 @@ A leaf is fathomed by dual multipliers whose bound reaches the cutoff, or by Far
 which prove that the node has no point at all (`dual_bound`). What the bound has beyond the cutoff
 is used up: bounds of branches are given back where the file's own bound will do, so that the leaf
 rests on fewer branches, and then multipliers are left out that it does not need.
+
+`BranchAndBound` has one `Fathomer`, which it asks at each node that may be closed, and whose
+`Cutoff` says what the leaves are to show.
 """
 
 from __future__ import annotations
@@ -23,6 +26,8 @@ LEAST_INFEASIBILITY = 1e-9  # of phase one, for a contradiction
 SMALLEST_INFEASIBILITY = 1e-14  # the same where nothing else is left to try
 MOST_ENTRIES_BY_ROW = 10**6  # rows times columns of a program whose single rows are tried
 
+# Of a program, the basic columns and the rows that are not basic of a basis: its duals by row, None
+# where they are not found.
 ExactDuals = Callable[
     [IntegerProgram, Sequence[int], Sequence[int]], Optional[Mapping[int, Fraction]]
 ]
@@ -40,7 +45,11 @@ class Cutoff(NamedTuple):
     is_strict: bool = False
 
     def is_improved_by(self, objective: Fraction) -> bool:
-        """Whether a point of this objective should not be there."""
+        """Whether a feasible point of this objective, minimised, is what the leaves are to exclude.
+
+        That is a point below `value`, or at it where `is_strict`, and any point where there is no
+        `value`. A search ends with such a point.
+        """
         if self.value is None:
             return True
         return objective < self.value or self.is_strict and objective == self.value
@@ -50,9 +59,10 @@ class BoundUse(NamedTuple):
     """A bound that a branch gave and that a leaf rests on.
 
     Attributes:
-        depth: Of the branch.
-        column: Or form.
-        reduced_cost: Of the column; of a form its multiplier. Above 0 it rests on the lower bound.
+        depth: Of the branch: 0 for the one at the root of the tree. Each branch gives one bound.
+        column: Whose bound it is; from `n` on a form.
+        reduced_cost: Of the column, as in `LeafProof.reduced_costs`; of a form the numerator of
+            its row's multiplier. Above 0 the leaf rests on the lower bound, below 0 on the upper.
     """
 
     depth: int
@@ -61,7 +71,16 @@ class BoundUse(NamedTuple):
 
 
 class Fathomer:
-    """Finds leaves for the node where a search stands."""
+    """Finds leaves for the node where a search stands.
+
+    Each way to a leaf returns it with the depths of the branches that it rests on, or None where
+    that way shows nothing; what it returns is proved in whole numbers.
+
+    Attributes:
+        node: That of the search, which moves it.
+        cutoff: What leaves are to show.
+        prover: Judges multipliers by that cutoff.
+    """
 
     def __init__(self, node: Node, cutoff: Cutoff) -> None:
         self.node = node
@@ -70,17 +89,28 @@ class Fathomer:
         self.set_cutoff(cutoff)
 
     def set_cutoff(self, cutoff: Cutoff) -> None:
-        """For the leaves from here on."""
+        """Makes `cutoff` and `prover` those for the leaves from here on.
+
+        At the start, and where a stopped search is finished at a cutoff that is less demanding.
+        """
         self.cutoff = cutoff
         self.prover = LeafProver(self.program, cutoff.value, cutoff.is_strict)
 
     def by_duals(self) -> Optional[ProvedSubtree]:
-        """By the duals of the relaxation that was solved last."""
+        """A leaf by the duals of the node's relaxation, which CLP has just solved to its optimum.
+
+        The roundings of CLP's duals are tried first, then the exact duals of its basis. Asked for
+        where the relaxation's optimum reaches the cutoff in doubles.
+        """
         proof = self._proof_of(self.node.clp, MultiplierKind.DUAL, basis_duals)
         return None if proof is None else self._proved(proof)
 
     def by_farkas(self) -> Optional[ProvedSubtree]:
-        """By Farkas multipliers: a ray of CLP, in either sign, else those of phase one."""
+        """A leaf by Farkas multipliers, where CLP has called the node's relaxation infeasible.
+
+        They are CLP's ray, with both signs since CLP does not say which is right, else what
+        `by_phase_one` finds.
+        """
         ray = self.node.clp.farkas_multipliers()
         for sign in (1, -1):
             multipliers = {row: sign * v for row, v in enumerate(ray)}
@@ -92,7 +122,13 @@ class Fathomer:
         return self.by_phase_one()
 
     def by_row(self) -> Optional[ProvedSubtree]:
-        """By a single row that no point of the box satisfies."""
+        """A leaf by the first row that misses one of its bounds at all points of the node's box.
+
+        The row has the Farkas multiplier 1 or -1; other rows come in where a column lacks a bound
+        that this needs. Asked for where all integer columns are fixed, and neither a better
+        point nor a violation in phase one is seen. Not tried where the program has more than
+        MOST_ENTRIES_BY_ROW rows times columns.
+        """
         program = self.program
         if program.m * program.n > MOST_ENTRIES_BY_ROW:
             return None
@@ -107,10 +143,14 @@ class Fathomer:
         return None
 
     def by_phase_one(self, least: float = LEAST_INFEASIBILITY) -> Optional[ProvedSubtree]:
-        """By the duals of phase one, which minimises by how much rows are violated.
+        """A leaf by the duals of phase one, which minimises by how much rows are violated.
+
+        They are Farkas multipliers: the roundings of CLP's duals, else the exact duals of its
+        basis.
 
         Args:
-            least: The violation, in the rows' units, from which on it is taken for one.
+            least: The optimum of phase one from which on multipliers are tried: the sum of the
+                violations, that of each row over its `row_unit`. CLP's tolerance is at most this.
         """
         clp = self._phase_one_in_node()
         clp.set_tolerance(min(PHASE_ONE_TOLERANCE, least))
@@ -120,9 +160,10 @@ class Fathomer:
         return None if proof is None else self._proved(proof)
 
     def empty_domain(self, column: int) -> ProvedSubtree:
-        """Of an integer column with no integer between its bounds.
+        """The proof at a node where this integer column has no integer between its two bounds.
 
-        Multipliers do not see that, a split disjunction on the column does.
+        Multipliers do not see that, a split disjunction on the column does. The proof rests on the
+        branches that gave the two bounds. Asked for before the relaxation is solved.
         """
         upper = self.node.box.upper[column]
         assert upper is not None
@@ -133,7 +174,10 @@ class Fathomer:
         )
 
     def _phase_one_in_node(self) -> Clp:
-        """The program of phase one, under the node's bounds."""
+        """CLP's phase one of the program with the node's bounds of columns and forms, not solved.
+
+        It is made once and keeps its last basis.
+        """
         node, program = self.node, self.program
         if self._phase_one is None:
             self._phase_one = phase_one(program)
@@ -147,7 +191,13 @@ class Fathomer:
     def _proof_of(
         self, clp: Clp, kind: MultiplierKind, exact_duals: ExactDuals
     ) -> Optional[LeafProof]:
-        """By CLP's duals, else by the exact ones of its basis."""
+        """A proof at the node by the roundings of CLP's duals, else by the exact ones of its basis.
+
+        Args:
+            clp: The relaxation or phase one, at its optimum.
+            kind: DUAL for the relaxation, FARKAS for phase one.
+            exact_duals: `basis_duals` or `phase_one_duals`, as fits `clp`.
+        """
         duals = dict(enumerate(clp.duals()))
         proof = self.prover.prove_from_doubles(duals, kind, self.node.box)
         if proof is not None:
@@ -156,7 +206,11 @@ class Fathomer:
         return self.prover.prove_from_fractions(exact, kind, self.node.box)
 
     def _proved(self, proof: LeafProof) -> ProvedSubtree:
-        """The node by its leaf, which rests on as few branches as the proof's surplus allows."""
+        """The node as it is closed by a proof: its leaf, and the depths of branches that it needs.
+
+        The proof's surplus is spent first on giving bounds of branches back, the deepest first,
+        then on leaving out multipliers.
+        """
         program = self.program
         kept, surplus = self._without_needless_bounds(proof)
         box = Box(*(self._own_unless(kept, is_upper) for is_upper in (0, 1)))
@@ -169,10 +223,12 @@ class Fathomer:
         """The branches that a proof rests on, when it spends its surplus on the file's own bounds.
 
         A column whose bound goes back to the file's own one lowers the dual bound by its reduced
-        cost times the difference. The deepest branches are given back first.
+        cost times the difference. The deepest branches are given back first; a bound of a form, or
+        one that the file does not have, is never given back.
 
         Returns:
-            The depths of the branches, and the surplus that is left.
+            The depths of the branches that are kept, and the surplus that is left, in the units of
+            `LeafProof.surplus`.
         """
         program, surplus = self.program, proof.surplus
         used = self._bounds_used(proof)
@@ -192,7 +248,13 @@ class Fathomer:
         return kept, surplus
 
     def _own_unless(self, kept: set[int], is_upper: int) -> List[Optional[int]]:
-        """The columns' bounds: the node's where one of these branches gave it, else the file's."""
+        """Bounds by column, over `bound_scale`: the node's where a kept branch gave it, else the
+        file's own.
+
+        Args:
+            kept: Depths of branches.
+            is_upper: 1 for the upper bounds, 0 for the lower ones: the place in a `Box`.
+        """
         own_bounds = (self.program.lower, self.program.upper)[is_upper]
         node_bounds, depths = self.node.box[is_upper], self.node.bound_depths[is_upper]
         return [
@@ -201,7 +263,11 @@ class Fathomer:
         ]
 
     def _bounds_used(self, proof: LeafProof) -> List[BoundUse]:
-        """The bounds of branches that a leaf rests on."""
+        """The bounds of branches that a proof at the node rests on; the file's own are left out.
+
+        The sign of a column's reduced cost, or of the multiplier of a form's row, says which of
+        its two bounds counts.
+        """
         lower_depths, upper_depths = self.node.bound_depths
         n, numerators = self.program.n, proof.multipliers.numerators
         used = [(j, cost) for j, cost in enumerate(proof.reduced_costs) if cost]

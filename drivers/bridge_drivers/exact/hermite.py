@@ -5,6 +5,8 @@ branches of the disjunction there contradict it. Either the bounds of a column o
 whole number between them, or equations of integer columns have no integer solution. The latter is
 found by the Hermite normal form: A x = b has an integer solution unless there are multipliers u
 with u A whole and u b not (Kronecker; Schrijver 1986, corollary 4.1a).
+
+`Refuter` asks `empty_interval`, then `hermite_refutation`, before it searches.
 """
 
 from __future__ import annotations
@@ -20,7 +22,8 @@ from .work_limit import check_work
 MOST_EQUATIONS = 120
 LARGEST_NUMBER = 10**60  # of a matrix that is brought to its Hermite form
 
-Form = Tuple[Tuple[int, int], ...]  # columns and coefficients
+# columns and whole coefficients without a common divisor, of which the first is above 0
+Form = Tuple[Tuple[int, int], ...]
 Columns = List[List[int]]  # of a matrix, each by row
 
 
@@ -28,10 +31,11 @@ class IntegerRefutation(NamedTuple):
     """An integer form that is more than `floor` and less than `floor + 1` at all points.
 
     Attributes:
-        form: Coefficients by column.
+        form: Whole coefficients by column, those that are not 0; all columns are integer.
         floor: The whole number below the form.
-        lower_multipliers: By row: these show that the form is more than `floor`. No multipliers:
-            bounds of a column show it.
+        lower_multipliers: By row of the program. The rows, in the file's units, times these sum up
+            to the form, and their bounds show that it is more than `floor`. Empty: the form is one
+            column, whose own bound shows it.
         upper_multipliers: The same of less than `floor + 1`.
     """
 
@@ -42,7 +46,13 @@ class IntegerRefutation(NamedTuple):
 
 
 class _FormBound(NamedTuple):
-    """A bound of a form, with the multipliers of rows that show it."""
+    """A bound of a form, with the multipliers of rows that show it.
+
+    Attributes:
+        is_upper: Whether the form is at most `value`; else it is at least that.
+        value: In the file's units.
+        multipliers: By row, as in `IntegerRefutation`.
+    """
 
     is_upper: bool
     value: Fraction
@@ -50,15 +60,16 @@ class _FormBound(NamedTuple):
 
 
 def empty_interval(program: IntegerProgram) -> Optional[IntegerRefutation]:
-    """An integer form between whose bounds there is no whole number.
+    """An integer form between whose bounds there is no whole number; None where none is found.
 
-    A column is such a form, and so is what rows of integer columns have in common whose
-    coefficients are the same up to a factor.
+    Integer columns are tried first, then the forms that rows of integer columns have in common
+    whose coefficients are the same up to a factor.
     """
     return _empty_column(program) or _empty_row(program)
 
 
 def _empty_column(program: IntegerProgram) -> Optional[IntegerRefutation]:
+    """By the first integer column with no whole number between its own two bounds."""
     scale = program.bound_scale
     for j, (lower, upper) in enumerate(zip(program.lower, program.upper)):
         if program.is_integer[j] and lower is not None and upper is not None:
@@ -68,6 +79,8 @@ def _empty_column(program: IntegerProgram) -> Optional[IntegerRefutation]:
 
 
 def _empty_row(program: IntegerProgram) -> Optional[IntegerRefutation]:
+    """By the first form of rows whose tightest bounds, `low` and `high`, have no whole number
+    between them: floor(high) < low."""
     lowers: Dict[Form, _FormBound] = {}
     uppers: Dict[Form, _FormBound] = {}
     for i in comparable_rows(program):
@@ -84,7 +97,12 @@ def _empty_row(program: IntegerProgram) -> Optional[IntegerRefutation]:
 
 
 def comparable_rows(program: IntegerProgram) -> Iterator[int]:
-    """Rows of integer columns that have two bounds, or may have the form of other rows."""
+    """The rows by which `_empty_row` may find something, by their numbers.
+
+    All their columns are integer, and they have two bounds, or a single column, whose own bounds
+    count too, or else as many columns as another row, with the same first and last one: the two may
+    have the same form.
+    """
     kinds = [(len(row), row[0][0], row[-1][0]) if row else None for row in program.rows]
     counts = Counter(kinds)
     for i, row in enumerate(program.rows):
@@ -101,7 +119,12 @@ def _has_integer_columns(program: IntegerProgram, row: int) -> bool:
 
 
 def _bounds_of_form(program: IntegerProgram, row: int, factor: Fraction) -> Iterator[_FormBound]:
-    """Of the form that is `factor` times a row; of a column alone its own bounds, too."""
+    """The bounds of the form that is `factor` times a row, and those of its column where it is one.
+
+    Args:
+        factor: Of the row in the file's units. Below 0 it turns a lower bound of the row into an
+            upper one of the form.
+    """
     scale = program.bound_scale
     for is_upper, bound in ((False, program.row_lower[row]), (True, program.row_upper[row])):
         if bound is not None:
@@ -115,6 +138,11 @@ def _bounds_of_form(program: IntegerProgram, row: int, factor: Fraction) -> Iter
 
 
 def _keep_tightest(known: Dict[Form, _FormBound], form: Form, bound: _FormBound) -> None:
+    """Sets a form's bound in `known`, unless the one that is there is as tight.
+
+    Args:
+        known: By form, bounds of the same side as `bound`.
+    """
     old = known.get(form)
     if old is not None:
         is_tighter = bound.value < old.value if bound.is_upper else bound.value > old.value
@@ -124,12 +152,13 @@ def _keep_tightest(known: Dict[Form, _FormBound], form: Form, bound: _FormBound)
 
 
 def hermite_refutation(program: IntegerProgram) -> Optional[IntegerRefutation]:
-    """Multipliers of equations of integer columns whose sum has whole coefficients, and a side that
-    is not whole.
+    """A refutation by the equations of integer columns: under some multipliers they sum up to whole
+    coefficients, but to a side that is not whole.
 
     Returns:
-        None where the equations have an integer solution, contradict each other as they stand, or
-        are too many or too long.
+        None where the equations have an integer solution, or contradict each other as they stand
+        (which Farkas multipliers show), are more than MOST_EQUATIONS, or bring in numbers beyond
+        LARGEST_NUMBER.
     """
     equations = _integer_equations(program)
     if not equations or len(equations) > MOST_EQUATIONS:
@@ -148,9 +177,9 @@ class _Equation(NamedTuple):
 
     Attributes:
         row: Its place in the program.
-        factor: By which the coefficients become whole.
-        coefficients: By column.
-        side: Of the equation, which need not be whole.
+        factor: The least by which its coefficients in the file's units become whole.
+        coefficients: By column of the program, times `factor`.
+        side: Of the equation, times `factor`; it need not be whole.
     """
 
     row: int
@@ -160,6 +189,7 @@ class _Equation(NamedTuple):
 
 
 def _integer_equations(program: IntegerProgram) -> List[_Equation]:
+    """The program's rows whose two bounds are equal and whose columns are all integer."""
     found = []
     scale = program.row_scale
     for i, side in enumerate(program.row_lower):
@@ -175,7 +205,8 @@ def _integer_equations(program: IntegerProgram) -> List[_Equation]:
 
 
 def _by_column(equations: Sequence[_Equation]) -> Columns:
-    """The matrix of the equations; columns that they do not have are left out."""
+    """The matrix of the equations: a list for each column that one of them has, in the columns'
+    order, with its coefficient in each equation."""
     columns = sorted({j for equation in equations for j in equation.coefficients})
     return [[equation.coefficients.get(j, 0) for equation in equations] for j in columns]
 
@@ -183,7 +214,14 @@ def _by_column(equations: Sequence[_Equation]) -> Columns:
 def _combination(
     equations: Sequence[_Equation], multipliers: Mapping[int, Fraction]
 ) -> Dict[int, int]:
-    """The sum of equations under multipliers that make its coefficients whole."""
+    """The sum of equations under multipliers that make its coefficients whole.
+
+    Args:
+        multipliers: By place in `equations`.
+
+    Returns:
+        Coefficients by column of the program, those that are not 0.
+    """
     form: Dict[int, Fraction] = {}
     for k, u in multipliers.items():
         for j, a in equations[k].coefficients.items():
@@ -192,15 +230,15 @@ def _combination(
 
 
 def fractional_unknown(columns: Columns, sides: List[Fraction]) -> Optional[Dict[int, Fraction]]:
-    """Multipliers that show that equations have no integer solution.
+    """Multipliers u that show that A x = b has no integer solution: u A is whole, u b is not.
 
-    Integer operations on the columns, which keep that there is one, bring the matrix to a lower
+    Integer operations on the columns, which keep whether there is one, bring the matrix to a lower
     triangle, row by row. Its unknowns follow one from another; the first that is not whole is given
     by a row of the triangle's inverse.
 
     Args:
-        columns: Of the matrix, which are lost.
-        sides: Of the equations, by row.
+        columns: Of A, each with its entries by row; they are changed, and of no use afterwards.
+        sides: Of b, by row.
 
     Returns:
         By row; None where all unknowns are whole, where the equations contradict each other as they
@@ -226,12 +264,13 @@ def fractional_unknown(columns: Columns, sides: List[Fraction]) -> Optional[Dict
 
 
 def eliminate_entry(columns: Columns, row: int, start: int) -> bool:
-    """Leaves the row one number among the columns from `start` on, which stands in that column.
+    """Makes all entries of the row 0 in the columns behind `start`, and changes columns in place.
 
-    That is Euclid's algorithm on the row's entries, by integer operations on columns.
+    That is Euclid's algorithm on the row's entries from `start` on, by integer operations on those
+    columns: column `start` has their greatest common divisor, with some sign, or 0 where all are 0.
 
     Returns:
-        False where numbers become too long.
+        False where a column's numbers become longer than LARGEST_NUMBER: it is not done then.
     """
     while True:
         check_work()
@@ -249,17 +288,23 @@ def eliminate_entry(columns: Columns, row: int, start: int) -> bool:
 
 
 def _remainder(column: List[int], divisor: List[int], row: int) -> List[int]:
-    """The column without the multiple of another that leaves the least entry, from 0 on."""
+    """The column less a whole multiple of the divisor: its entry in the row is what is left when it
+    is divided by the divisor's, which is 0 or has the sign of that."""
     q = column[row] // divisor[row]
     return [x - q * y for x, y in zip(column, divisor)] if q else column
 
 
 def row_of_inverse(columns: Columns, rows: List[int]) -> Dict[int, Fraction]:
-    """The multipliers of these rows that leave 1 in the last column of a triangle, else 0.
+    """The multipliers of these rows under which the last column of a triangle sums up to 1, and
+    those before it to 0: the last row of its inverse.
 
     Args:
-        columns: As many as rows at least: the entry of row rows[k] in column k is not 0, and those
-            behind it are 0.
+        columns: As many as rows at least: the entry of row rows[k] in column k is not 0, and that
+            row's entries in later columns are 0.
+        rows: The rows of the triangle, the diagonal's order.
+
+    Returns:
+        By row.
     """
     found: Dict[int, Fraction] = {}
     for k in reversed(range(len(rows))):

@@ -1,4 +1,8 @@
-"""What is true of an integer program: what trees over it prove at its best point, and a bound."""
+"""What is true of an integer program: what trees over it prove at its best point, and a bound.
+
+`Certifier` has one `IntegerCertifier`, which it asks where the program has integer columns. What is
+tried is yielded as evidence, proved or not, of which the caller takes the first that is proved.
+"""
 
 from __future__ import annotations
 
@@ -31,10 +35,15 @@ class IntegerCertifier:
     """Certifies one integer program.
 
     Attributes:
-        incumbent: The point whose value the last portfolio is for.
+        store: Points and bounds that are known, which all that is tried here adds to.
+        refuter: Of the same program: shows that it has no point, or no bound.
+        linear: Of the same program: adds bounds of its relaxation to the store.
+        incumbent: The point whose value the last portfolio is for; None before the first.
         portfolio: That portfolio.
-        previous_portfolio: For another value: the one that had the closest bound.
-        is_answer_contradicted: No point has the answer's integer columns.
+        previous_portfolio: Of those before it, which were for worse values: the one that had the
+            greatest dual bound.
+        is_answer_contradicted: No point has the answer's integer columns: they miss rows or bounds
+            by more than rounding, or CLP finds no values for the other columns.
     """
 
     def __init__(self, task: CertificationTask, refuter: Refuter, linear: LinearCertifier) -> None:
@@ -49,7 +58,14 @@ class IntegerCertifier:
         self.is_answer_contradicted = False
 
     def certify_answer(self, x: Sequence[Number]) -> Evidence:
-        """What is true at an answer's integer columns, or else of the program."""
+        """What is proved from an answer: at an exact point that has its integer columns, else at
+        one near it, else of the program without a point.
+
+        Sets `is_answer_contradicted` where no exact point has them.
+
+        Args:
+            x: By column, in doubles, or fractions where the answer is exact.
+        """
         point, violation = self.task.exact_point(x), Fraction(0)
         if point is None:
             violation = points.integer_residual(self.program, x)
@@ -64,7 +80,15 @@ class IntegerCertifier:
         return first_proved(self.certify_from_point(point))
 
     def certify_from_point(self, point: Point) -> Iterator[Evidence]:
-        """A ray, else a tree at the value of a point, then of each better one that is found."""
+        """A ray, else a tree at the value of a point, then of each better one that is found.
+
+        Where there is no tree, what the relaxation proves in fractions, and the strongest claims of
+        the points and the bound in the store; at last why there is no more. Sets what
+        `_search_from` sets.
+
+        Args:
+            point: Feasible.
+        """
         program, store = self.program, self.store
         store.add_point(point)
         yield from self.refuter.ray_of_point(store.point or self.incumbent)
@@ -82,10 +106,14 @@ class IntegerCertifier:
         yield not_proved(self.task.deadline.why(reports[-1]), point)
 
     def repaired_point(self, x: Sequence[Number]) -> Optional[Point]:
-        """A point beside an answer that breaks rows.
+        """A feasible point beside an answer that breaks rows; None where a short search finds none.
 
-        Some of its integer values are off by the digits that a solver prints, or are given by
-        equations.
+        The answer's integer values may be off in the digits that a solver does not print; then also
+        columns are free that have a cost and stand in an equation, which gives them. Each of the
+        two searches has REPAIR_SHARE of the seconds that are left, and REPAIR_NODES nodes.
+
+        Args:
+            x: The answer's values by column.
         """
         for frees_equations in (False, True):
             near = points.restricted_to(self.program, x, frees_equations=frees_equations)
@@ -100,21 +128,31 @@ class IntegerCertifier:
         return None
 
     def claim_bounds(self) -> Iterator[Evidence]:
-        """A bound, where there is no point to start from."""
+        """Adds the relaxation's bound to the store, for the caller to claim, without a known point.
+
+        Yields what is more: a refutation where CLP finds the relaxation infeasible (or what follows
+        from a point that is found), and what the relaxation proves in fractions.
+        """
         if self.task.solve_relaxation().status is LpStatus.INFEASIBLE:
             yield from self.refuter.refute(self.certify_from_point)
         self.add_root_bound()
         yield from self.refuter.by_relaxation_at_last()
 
     def claim_known_tree(self) -> Iterator[Evidence]:
-        """The tree that was found before the time was over."""
+        """Yields the claim of the last portfolio's best tree at its point, if it has one.
+
+        Asked for where the time is over, when the tree may not have been judged yet.
+        """
         point = self.incumbent or self.store.point
         if point is not None and self.portfolio is not None and self.portfolio.best is not None:
             yield self.store.claim_of_tree(self.portfolio.best, point)
 
     def add_root_bound(self) -> None:
-        """The bound of the searches, and of the relaxation: that of its exact optimum where it is
-        had."""
+        """Adds the bound that the searches prove to the store, and that of the relaxation.
+
+        The relaxation is solved where there is no bound yet, or with `proves`: its duals in
+        decimals, then the exact duals of its basis, whose bound is kept in all its digits.
+        """
         self._add_searched_bound()
         if self.store.bound is not None and not self.task.options.proves:
             return
@@ -130,8 +168,16 @@ class IntegerCertifier:
             self.store.add_leaf(proof.multipliers, is_exact=True)
 
     def _search_from(self, point: Point) -> Portfolio:
-        """The portfolio of the best point that is found; where better ones do not end, of the last
-        but one."""
+        """Runs a portfolio at the point's value, minimised, then at that of each better one found.
+
+        Sets `incumbent`, `portfolio` and `previous_portfolio`, and tells the deadline the incumbent
+        in the file's sense. With `proves` the portfolio is a race, else the plain search alone.
+
+        Returns:
+            The portfolio that was run last, whose `best` is None where it found no tree: where the
+            time was over, CLP is not installed, or better points did not end within
+            MOST_IMPROVEMENTS.
+        """
         for _ in range(MOST_IMPROVEMENTS):
             portfolio = self.task.portfolio(self.program, self.program.value(point))
             self.store.add_point(point)
@@ -155,7 +201,11 @@ class IntegerCertifier:
         return portfolio
 
     def _add_searched_bound(self) -> None:
-        """The closest bound that a stopped search has, whatever value it was for."""
+        """Adds the bound that a stopped search proves to the store, whatever value it was for.
+
+        The portfolio with the greater dual bound in doubles comes first, and the first that proves
+        one will do. Its search cannot go on.
+        """
         known: List[Portfolio] = [
             p for p in (self.portfolio, self.previous_portfolio) if p is not None
         ]
@@ -170,12 +220,14 @@ class IntegerCertifier:
     def _without_exact_point(self, x: Sequence[Number], violation: Fraction) -> Evidence:
         """Where no exact point has the answer's integer columns: a refutation, or what is found.
 
-        An answer that breaks rows by rounding alone is meant: only with `proves` more is tried than
-        one disjunction and a relaxation whose optimum is integer, and no worse point takes its
-        place.
+        A claim of a point that is worse than the answer does not take the answer's place, unless
+        the point is optimal or the answer is contradicted: then the reason why the answer is not
+        proved is told, with `contradicts_answer`.
 
         Args:
-            violation: Of rows and bounds at x, as a share of the largest term.
+            x: The answer's values by column.
+            violation: By how much x misses what integer columns alone decide
+                (`points.integer_residual`); up to ROUNDING it may be rounding alone.
         """
         found = first_proved(self._tried_without_point(violation))
         claimed = found.point
@@ -195,6 +247,15 @@ class IntegerCertifier:
         return not_proved(reason)._replace(contradicts_answer=self.is_answer_contradicted)
 
     def _tried_without_point(self, violation: Fraction) -> Iterator[Evidence]:
+        """A refutation, or what follows from a point that its search finds.
+
+        Where rows are missed by rounding alone the answer may well be right: without `proves` only
+        what is quick is tried, which is one disjunction (where all numbers of the program are
+        whole) and a relaxation whose exact optimum is integer.
+
+        Args:
+            violation: As of `_without_exact_point`.
+        """
         if self.task.options.proves or self.is_answer_contradicted or not violation:
             return self.refuter.refute(self.certify_from_point)
         are_integers = self.program.row_scale == self.program.bound_scale == 1

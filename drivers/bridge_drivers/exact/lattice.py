@@ -9,6 +9,8 @@ them, over the widths. A basis of it that is reduced by LLL (Lenstra, Lenstra an
 short and nearly orthogonal vectors. The coordinates of a point in this basis are integer forms of
 its columns, and the one along a vector takes the fewer values, the longer the part of the vector is
 that is orthogonal to those before it.
+
+`Portfolio` asks `thin_directions` for the forms that one of its searches branches on.
 """
 
 from __future__ import annotations
@@ -33,14 +35,14 @@ LARGEST_COEFFICIENT = 2**31
 MOST_ROUNDS = 20  # of taking equations away from a form
 
 Form = Dict[int, int]  # coefficients by column, those that are not 0
-Matrix = List[List[int]]
+Matrix = List[List[int]]  # of vectors
 
 
 class Width(NamedTuple):
-    """A form of the columns that are not fixed, which are counted from 0, and how wide it is.
+    """A form of the integer columns that are not fixed, and how wide it is.
 
     Attributes:
-        coefficients: Those that are not 0.
+        coefficients: By place among those columns, in the file's units; those that are not 0.
         width: The greatest of its values less the least, about; above 0.
     """
 
@@ -59,6 +61,7 @@ class LLLReduction:
         coordinates: Given vector i is the sum of coordinates[k][i] times vector k of the basis.
         determinants: d[k] is the determinant of the products of the first k vectors with each
             other, so that d[k + 1] / d[k] is the squared length of what is orthogonal in vector k.
+        products: Of vector i along vector j, for j below i, as above.
     """
 
     def __init__(self, vectors: Matrix) -> None:
@@ -69,10 +72,12 @@ class LLLReduction:
         self.products = [[0 for _ in every] for _ in every]
 
     def run(self) -> bool:
-        """Reduces the basis.
+        """Reduces the basis in place, until any two neighbours satisfy Lovasz' condition (delta is
+        0.99) and all Gram-Schmidt coefficients are at most 1/2 in size.
 
         Returns:
-            False where the vectors depend on each other, or it takes too many steps.
+            False where the vectors depend on each other, or it takes more than MOST_STEPS: then the
+            basis is not reduced.
         """
         d, products = self.determinants, self.products
         if not all(map(self._orthogonalize, range(len(self.basis)))):
@@ -94,7 +99,14 @@ class LLLReduction:
         return False
 
     def _orthogonalize(self, k: int) -> bool:
-        """Fills in the numbers of vector k, of those before it; False where it depends on them."""
+        """Sets `products` of vector k along those before it, and determinant k + 1.
+
+        The numbers of the vectors before it must be there. Called for each vector once, in their
+        order.
+
+        Returns:
+            False where vector k depends on those before it.
+        """
         d, products = self.determinants, self.products
         for j in range(k + 1):
             product = sum(x * y for x, y in zip(self.basis[k], self.basis[j]))
@@ -107,7 +119,8 @@ class LLLReduction:
         return d[k + 1] != 0
 
     def _reduce_size(self, k: int, other: int) -> None:
-        """Takes the nearest whole multiple of an earlier vector away from vector k."""
+        """Takes a whole multiple of the earlier vector `other` away from vector k: that after which
+        k's Gram-Schmidt coefficient along it is at most 1/2 in size."""
         d, products = self.determinants, self.products
         if 2 * abs(products[k][other]) <= d[other + 1]:
             return
@@ -119,7 +132,7 @@ class LLLReduction:
             products[k][i] -= q * products[other][i]
 
     def _swap_with_previous(self, k: int) -> None:
-        """Exchanges the vectors k and k - 1."""
+        """Exchanges the vectors k and k - 1, with all numbers that belong to them."""
         d, products = self.determinants, self.products
         for matrix in (self.basis, self.coordinates):
             matrix[k], matrix[k - 1] = matrix[k - 1], matrix[k]
@@ -136,7 +149,7 @@ class LLLReduction:
 
 
 def _combined(vector: List[int], factor: int, other: List[int]) -> List[int]:
-    """The vector plus a multiple of the other."""
+    """The vector plus `factor` times the other."""
     return [x + factor * y for x, y in zip(vector, other)]
 
 
@@ -151,11 +164,14 @@ def thin_directions(
 
     Args:
         program: All of its columns that are not fixed must be integer for the widths to be true.
-        objective: The objective's form by column, where there is one.
-        objective_width: How wide that is between the best bound and the cutoff.
+        objective: The objective's form by column, as an `ObjectiveLattice` has it; None: it does
+            not count.
+        objective_width: How much that form's value may be between the best bound and the cutoff.
 
     Returns:
-        No form where the program has too many columns that are not fixed, or too few.
+        Coefficients by column of the program, of MOST_FORMS forms at most. No form where the
+        program has fewer than two integer columns that are not fixed, or more than MOST_COLUMNS, or
+        where the reduction takes too long.
     """
     wide = _branching_columns(program)
     if not 2 <= len(wide) <= MOST_COLUMNS:
@@ -174,18 +190,25 @@ def thin_directions(
 
 
 def _branching_columns(program: IntegerProgram) -> List[int]:
-    """The integer columns that are not fixed."""
+    """The integer columns that are not fixed, by their numbers; their order gives their places."""
     return [j for j, w in enumerate(program.is_integer) if w and not _is_fixed(program, j)]
 
 
 def _coordinates(reduction: LLLReduction, columns: Sequence[int]) -> Iterator[Form]:
-    """The coordinates in a reduced basis, those along its longest orthogonal parts first."""
+    """The coordinates of a point in a reduced basis, as integer forms by column of the program.
+
+    Those along the longest orthogonal parts come first: they take the fewest values.
+
+    Args:
+        columns: By place, that is by given vector, the program's column.
+    """
     d = reduction.determinants
     for k in sorted(range(len(columns)), key=lambda k: -Fraction(d[k + 1], d[k])):
         yield {j: a for j, a in zip(columns, reduction.coordinates[k]) if a}
 
 
 def _is_branching_form(form: Form) -> bool:
+    """Whether it has two columns at least, and all coefficients are below LARGEST_COEFFICIENT."""
     return len(form) > 1 and max(abs(a) for a in form.values()) < LARGEST_COEFFICIENT
 
 
@@ -196,7 +219,11 @@ def _with_leading_sign(form: Form) -> Form:
 
 
 def column_widths(program: IntegerProgram, columns: Sequence[int]) -> List[Width]:
-    """Each of these columns as a form, by its place among them."""
+    """Each of these columns as a form, in their order and by its place among them.
+
+    Its width is what is between its bounds, or WIDTH_WITHOUT_BOUND where one is missing, and
+    LEAST_COLUMN_WIDTH at least.
+    """
     found = []
     for k, j in enumerate(columns):
         lower, upper = program.lower[j], program.upper[j]
@@ -208,10 +235,14 @@ def column_widths(program: IntegerProgram, columns: Sequence[int]) -> List[Width
 
 
 def reduced_modulo(form: Form, equations: Sequence[Form]) -> Form:
-    """A form that has the same width, with smaller coefficients.
+    """A form that has the same width as this one, with smaller coefficients.
 
     Whole multiples of equations, whose value is fixed, are taken away as long as that makes it
-    shorter.
+    shorter, in MOST_ROUNDS rounds at most. `check_work` may end it.
+
+    Args:
+        form: By column.
+        equations: The left sides of equations, by column.
     """
     for _ in range(MOST_ROUNDS):
         check_work()
@@ -234,7 +265,12 @@ def _is_fixed(program: IntegerProgram, column: int) -> bool:
 
 
 def _row_widths(program: IntegerProgram, place: Mapping[int, int]) -> List[Width]:
-    """The rows that have no columns but these and fixed ones, and that are bounded."""
+    """The rows, as forms, that have no columns but these and fixed ones, and whose activity is
+    bounded on both sides.
+
+    Args:
+        place: By column its place among the integer columns that are not fixed.
+    """
     found = []
     for i, row in enumerate(program.rows):
         if all(j in place or _is_fixed(program, j) for j, _ in row):
@@ -244,6 +280,8 @@ def _row_widths(program: IntegerProgram, place: Mapping[int, int]) -> List[Width
 
 
 def _row_width(program: IntegerProgram, row: int, place: Mapping[int, int]) -> Optional[Width]:
+    """The row as a form of the columns that have a place; None where it has no bound of its own,
+    where its activity is not bounded on both sides, or where it has none of these columns."""
     if program.row_lower[row] is None and program.row_upper[row] is None:
         return None
     scale = program.row_scale
@@ -255,7 +293,11 @@ def _row_width(program: IntegerProgram, row: int, place: Mapping[int, int]) -> O
 
 
 def _row_interval(program: IntegerProgram, row: int) -> tuple[Optional[Fraction], ...]:
-    """The bounds of a row; what it does not have comes from the bounds of its columns."""
+    """The lower and the upper bound of a row, in the file's units.
+
+    One that it does not have is the least or greatest activity that the bounds of its columns
+    allow; None where those allow any.
+    """
     entries, scale = program.rows[row], program.bound_scale
     lower, upper = program.row_lower[row], program.row_upper[row]
     if lower is None:
@@ -270,7 +312,12 @@ def _row_interval(program: IntegerProgram, row: int) -> tuple[Optional[Fraction]
 
 
 def _activity(program: IntegerProgram, ends: Sequence[tuple[int, Bound]]) -> Optional[Fraction]:
-    """The sum of coefficients times bounds; None where a bound is not there."""
+    """The sum of coefficients times bounds, in the file's units; None where a bound is not there.
+
+    Args:
+        ends: By entry of a row: its coefficient over `row_scale`, and a bound of its column over
+            `bound_scale`.
+    """
     finite = [a * end for a, end in ends if end is not None]
     if len(finite) < len(ends):
         return None
@@ -278,20 +325,34 @@ def _activity(program: IntegerProgram, ends: Sequence[tuple[int, Bound]]) -> Opt
 
 
 def _bounded_width(coefficients: Mapping[int, Fraction], width: Fraction) -> Width:
-    """With a width that is not too small beside the coefficients."""
+    """A form with this width, or with its largest coefficient over LARGEST_RATIO if that is more.
+
+    Args:
+        coefficients: By place, at least one.
+    """
     largest = max(abs(a) for a in coefficients.values())
     return Width(coefficients, max(width, largest / LARGEST_RATIO))
 
 
 def _scaled_column(column: int, widths: Sequence[Width]) -> List[int]:
-    """The coefficients of a column in all forms, each over the form's width."""
+    """The lattice's vector of a column: by form its coefficient over the form's width, times
+    PRECISION, cut off to a whole number.
+
+    Args:
+        column: By its place among the columns of the forms.
+    """
     return [
         int(form[column] * PRECISION / width) if column in form else 0 for form, width in widths
     ]
 
 
 def _integer_equations(program: IntegerProgram, place: Mapping[int, int]) -> List[Form]:
-    """Equations that have these columns alone, in whole numbers without a common factor."""
+    """The left sides of the equations that have these columns alone, by column of the program, in
+    whole numbers without a common factor.
+
+    Args:
+        place: Its keys are the columns.
+    """
     rows = [
         row
         for row, lower, upper in zip(program.rows, program.row_lower, program.row_upper)

@@ -3,6 +3,9 @@
 CLP's duals are doubles. What stands in a certificate is exact, and is read and judged again: so
 short decimals and fractions are tried first. Each candidate is judged by the exact rule of
 `dual_bound` before it is kept.
+
+All that proves leaves makes a `LeafProver` for its cutoff: the search, MIR cuts, and the certifiers
+for the leaf of a whole program. `basis_duals` and `phase_one_duals` solve for exact duals.
 """
 
 from __future__ import annotations
@@ -64,6 +67,9 @@ class LeafProof(NamedTuple):
 class LeafProver:
     """Finds proofs that a box has no point better than a cutoff.
 
+    A box is given to each of its methods: bounds of the program's columns, over `bound_scale`, in
+    place of its own; what stands behind those of the columns is not looked at.
+
     Args:
         program: Whose rows the multipliers are for.
         cutoff: What the bound of dual multipliers must reach, minimised; None: any bound will do.
@@ -79,7 +85,14 @@ class LeafProver:
         self.is_strict = is_strict
 
     def prove(self, multipliers: Multipliers, box: Box) -> Optional[LeafProof]:
-        """The proof by these multipliers, or by those that a repair makes of them."""
+        """The proof by these multipliers, or by those that `repaired_bound` makes of them.
+
+        Args:
+            multipliers: Each row has the bound that the sign of its multiplier needs.
+
+        Returns:
+            None where the exact bound does not reach the cutoff, or is not finite.
+        """
         repaired, bound = repaired_bound(self.program, multipliers.reduced(), box)
         surplus = self._surplus(repaired, bound)
         if surplus < 0 or not bound.is_finite:
@@ -89,7 +102,14 @@ class LeafProver:
     def prove_from_doubles(
         self, values: Mapping[int, float], kind: MultiplierKind, box: Box
     ) -> Optional[LeafProof]:
-        """The first proof among ever longer roundings of these multipliers."""
+        """The first proof among ever longer roundings of these multipliers (`short_candidates`).
+
+        Args:
+            values: By row, minimised; those up to ZERO_MULTIPLIER in size count as 0.
+
+        Returns:
+            None where no rounding proves it, and of Farkas multipliers where all are 0.
+        """
         nonzero = {row: v for row, v in values.items() if abs(v) > ZERO_MULTIPLIER}
         if not nonzero and kind is MultiplierKind.FARKAS:
             return None
@@ -108,14 +128,30 @@ class LeafProver:
     def prove_from_fractions(
         self, values: Optional[Mapping[int, Fraction]], kind: MultiplierKind, box: Box
     ) -> Optional[LeafProof]:
-        """The proof by exactly these; None where they are none, or too wide for a certificate."""
+        """The proof by exactly these multipliers, or by those that a repair makes of them.
+
+        Args:
+            values: By row, minimised; None: there are none. Those whose row lacks the bound that
+                they need count as 0.
+
+        Returns:
+            None where there are none, where they do not prove it, or where they are too wide for a
+            certificate.
+        """
         if values is None:
             return None
         proof = self.prove(from_fractions(self.program, values, kind), box)
         return proof if proof is not None and proof.multipliers.fits_certificate() else None
 
     def sparsified(self, proof: LeafProof, box: Box) -> LeafProof:
-        """The proof without the multipliers that it does not need, the smallest ones first."""
+        """The proof without the multipliers that it does not need.
+
+        Those that weigh least are left out first, each as far as the surplus stays 0 or more. A
+        proof of fewer than LEAST_SPARSIFIED multipliers, or without surplus, stays as it is.
+
+        Args:
+            box: Of the leaf: the proof's reduced costs rest on its bounds.
+        """
         if len(proof.multipliers.numerators) < LEAST_SPARSIFIED or proof.surplus == 0:
             return proof
         numerators = dict(proof.multipliers.numerators)
@@ -132,7 +168,10 @@ class LeafProver:
         return LeafProof(proof.multipliers._replace(numerators=numerators), reduced_costs, surplus)
 
     def _surplus(self, multipliers: Multipliers, bound: DualBound) -> int:
-        """What the bound has over the cutoff, in the units of its numerator."""
+        """What the bound has over the cutoff, in the units of its numerator; below 0: not enough.
+
+        With Farkas multipliers the bound must be above 0, thus its numerator at least 1.
+        """
         if multipliers.is_farkas:
             return bound.numerator - 1
         if self.cutoff is None:
@@ -143,16 +182,23 @@ class LeafProver:
         return bound.numerator - least
 
     def _cost_scale(self, multipliers: Multipliers) -> int:
+        """The factor of numerators in reduced costs, as in `dual_bound`; 1 of Farkas multipliers."""
         return 1 if multipliers.is_farkas else self.program.cost_scale
 
     def _size(self, row: int, numerator: int) -> int:
-        """Of a multiplier, beside the coefficients of its row."""
+        """How much a multiplier weighs: the size of its largest term in reduced costs, unscaled."""
         return abs(numerator) * max((abs(a) for _, a in self.program.rows[row]), default=0)
 
     def _surplus_without(
         self, row: int, multipliers: Multipliers, costs: Sequence[int], surplus: int, box: Box
     ) -> Optional[int]:
-        """The surplus without one multiplier; None where a column lacks the bound it then needs."""
+        """The surplus without the multiplier of a row; None where a column then lacks a bound.
+
+        Args:
+            multipliers: Of the proof, with the row's; others may have been left out since.
+            costs: By column, the reduced costs under those that are left.
+            surplus: Of those, in the units of `LeafProof.surplus`.
+        """
         numerator = multipliers.numerators[row]
         multiplier = numerator * self._cost_scale(multipliers)
         row_bound = needed_row_bound(self.program, row, numerator)
@@ -169,7 +215,8 @@ class LeafProver:
 def from_ratios(
     program: IntegerProgram, values: Mapping[int, Ratio], kind: MultiplierKind
 ) -> Multipliers:
-    """Multipliers over their least common denominator, without those that lack their row bound."""
+    """Multipliers by row over their least common denominator, without those that are 0 and those
+    whose row lacks the bound that they need."""
     kept = {
         row: ratio
         for row, ratio in values.items()
@@ -185,6 +232,7 @@ def from_ratios(
 def from_fractions(
     program: IntegerProgram, values: Mapping[int, Fraction], kind: MultiplierKind
 ) -> Multipliers:
+    """The same as `from_ratios`, of fractions by row."""
     ratios = {row: (v.numerator, v.denominator) for row, v in values.items()}
     return from_ratios(program, ratios, kind)
 
@@ -192,7 +240,12 @@ def from_fractions(
 def rounded(
     program: IntegerProgram, values: Mapping[int, float], places: int, kind: MultiplierKind
 ) -> Multipliers:
-    """Multipliers rounded to so many decimals, which may stand left of the point (below 0)."""
+    """Multipliers by row, rounded to decimals, without those that become 0 and those whose row
+    lacks the bound that they need.
+
+    Args:
+        places: Decimals behind the point; -2: to whole hundreds.
+    """
     power = 10 ** abs(places)
     if places >= 0:
         numerators = {row: round(v * power) for row, v in values.items()}
@@ -207,8 +260,12 @@ def short_candidates(
 ) -> Iterator[Multipliers]:
     """Roundings of multipliers, about in the order of their length.
 
-    Farkas multipliers are often small whole numbers times a factor, which is theirs to choose. At
-    last duals are made a little smaller: that leaves room in columns with costs above 0.
+    Farkas multipliers may be multiplied by any factor above 0, and are often small whole numbers
+    times one: these are tried first, then decimals of the largest as 1. At last duals are made a
+    little smaller: that leaves room in columns with costs above 0.
+
+    Args:
+        values: By row, none of them 0; of Farkas multipliers at least one.
     """
     largest = max([abs(v) for v in values.values()], default=1.0)
     first_digit = -math.floor(math.log10(largest))
@@ -224,6 +281,13 @@ def short_candidates(
 
 
 def _whole_multiples(program: IntegerProgram, values: Mapping[int, float]) -> Iterator[Multipliers]:
+    """Farkas multipliers rounded to whole numbers, when the least is made 1, 2, 3, 4 and 6 in size.
+
+    None of those whose largest is FARKAS_SPREAD times the least, or more.
+
+    Args:
+        values: By row, at least one, and none of them 0.
+    """
     sizes = [abs(v) for v in values.values()]
     least, largest = min(sizes), max(sizes)
     if largest / least < FARKAS_SPREAD:
@@ -235,7 +299,13 @@ def _whole_multiples(program: IntegerProgram, values: Mapping[int, float]) -> It
 def _decimals_and_fractions(
     program: IntegerProgram, values: Mapping[int, float], kind: MultiplierKind, first_digit: int
 ) -> Iterator[Multipliers]:
-    """Ever more decimals, and among them fractions of ever larger denominators."""
+    """Roundings to ever more decimals, and among them fractions of ever larger denominators.
+
+    Args:
+        values: By row.
+        first_digit: The decimal place of the largest one's first digit, below 0 left of the point;
+            decimals are counted on from it.
+    """
     digits = iter(DECIMAL_DIGITS)
     for place in range(len(DECIMAL_DIGITS) + len(DENOMINATORS)):
         if place in DENOMINATORS:
@@ -253,10 +323,15 @@ def repaired_bound(
 
     A column that lacks the bound that its reduced cost needs is given the reduced cost 0, or the
     other sign, by one multiplier of its rows. What that breaks elsewhere is repaired in the next of
-    a few rounds.
+    REPAIR_ROUNDS rounds. Nothing is repaired where there are more than MOST_REPAIRED_COLUMNS.
+
+    Args:
+        multipliers: Each row has the bound that the sign of its multiplier needs.
+        box: Bounds of columns, over `bound_scale`.
 
     Returns:
-        The multipliers with their bound, which need not be finite.
+        The multipliers with their bound, which need not be finite. They are the given object where
+        nothing was repaired.
     """
     bound = dual_bound(program, multipliers, box)
     if len(bound.unbounded_columns) > MOST_REPAIRED_COLUMNS:
@@ -274,7 +349,15 @@ def repaired_bound(
 def _with_column_repaired(
     program: IntegerProgram, multipliers: Multipliers, box: Box, column: int
 ) -> Multipliers:
-    """The same where no row of the column can take up its reduced cost."""
+    """Multipliers of which one row's is changed, so that a column's reduced cost is 0 or needs a
+    bound that the column has.
+
+    Rows that have a multiplier already come first, then those with few columns.
+
+    Returns:
+        The given ones where the column has the bound that it needs, or no row of it can take up its
+        reduced cost.
+    """
     numerators = multipliers.numerators
     lower, upper = box.lower[column], box.upper[column]
     if multipliers.is_farkas:
@@ -289,6 +372,7 @@ def _with_column_repaired(
     is_free = lower is None and upper is None
 
     def rank(entry: Tuple[int, int]) -> Tuple[bool, int]:
+        """Of a row and its coefficient: the least is tried first."""
         return entry[0] not in numerators, program.matrix.lengths[entry[0]]
 
     for row, a in sorted(entries, key=rank):
@@ -308,12 +392,17 @@ def _absorbed(
 ) -> Optional[Multipliers]:
     """The multipliers where that of one row takes up a column's reduced cost.
 
+    What is then left of it is 0, or less than the coefficient in size and of the other sign.
+
     Args:
-        coefficient: Of the column in that row, in the units of the reduced cost.
+        reduced_cost: Of the column under the given multipliers, over their denominator,
+            `row_scale` and, of duals, `cost_scale`; its sign needs a bound that is not there.
+        coefficient: By how much it falls when the numerator of that row's multiplier rises by 1.
         is_free: Whether the column has no bound at all, so that nothing may be left over.
 
     Returns:
-        None where the row lacks the bound for it, or the denominator would be too wide.
+        None where the row lacks the bound that its new multiplier needs, or the denominator would
+        be above LARGEST_DENOMINATOR.
     """
     numerators, denominator = given.numerators, given.denominator
     step, rest = divmod(reduced_cost, coefficient)
@@ -342,10 +431,12 @@ def basis_duals(
 
     Args:
         basic: The basic columns.
-        rows: As many rows that are not basic.
+        rows: As many rows that are not basic; all others have the dual 0.
 
     Returns:
-        By row, without zeros; None where the basis is too large, or has no such duals.
+        By row, without zeros, in the file's units and minimised; None where there are more than
+        MOST_BASIC_COLUMNS, where the basis is not square or has no such duals, or where it takes
+        too much work.
     """
     if len(basic) > MOST_BASIC_COLUMNS or len(basic) != len(rows):
         return None
@@ -359,9 +450,19 @@ def basis_duals(
 def phase_one_duals(
     program: IntegerProgram, basic: Sequence[int], rows: Sequence[int]
 ) -> Optional[Dict[int, Fraction]]:
-    """The same of the program of phase one, which has two artificial columns a row.
+    """The exact duals of a basis of phase one, which are Farkas multipliers where its optimum is
+    above 0.
 
-    Column n + i adds row i's unit to it and n + m + i takes it away, each at the cost 1.
+    Phase one has two artificial columns a row, of which n + i adds the row's `row_unit` to row i
+    and n + m + i takes it away, each at the cost 1; other columns cost nothing.
+
+    Args:
+        basic: The basic columns, artificial ones among them.
+        rows: The rows that are not basic; all others have the dual 0.
+
+    Returns:
+        By row, in the file's units; zeros may be among them. None where there are no such duals,
+        or it takes too much work.
     """
     columns: List[Equation] = []
     for column in basic:
@@ -374,7 +475,14 @@ def phase_one_duals(
 
 
 def _solved_in(rows: Sequence[int], columns: Iterable[Equation]) -> Optional[Dict[int, Fraction]]:
-    """The duals of these rows under which each column, with its cost, has the reduced cost 0."""
+    """The duals of these rows under which each column has the reduced cost 0; others count as 0.
+
+    Args:
+        columns: Of each its coefficients by row, and its cost.
+
+    Returns:
+        By row; None where there are none, or it takes too much work.
+    """
     unknowns = set(rows)
     return solve_exactly(
         [({i: a for i, a in terms.items() if i in unknowns}, cost) for terms, cost in columns]
@@ -382,7 +490,12 @@ def _solved_in(rows: Sequence[int], columns: Iterable[Equation]) -> Optional[Dic
 
 
 def last_convergent(value: float, largest: int) -> Ratio:
-    """The last convergent of a double's continued fraction with a denominator up to `largest`."""
+    """The last convergent of a double's continued fraction with a denominator up to `largest`.
+
+    Args:
+        value: Finite.
+        largest: At least 1.
+    """
     numerator, denominator = value.as_integer_ratio()
     before, last = (0, 1), (1, 0)
     while denominator:
