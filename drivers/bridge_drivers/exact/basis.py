@@ -2,9 +2,9 @@
 
 `exact_optimum` solves the two linear systems of a basis, for the point and for the duals, and
 checks all conditions of optimality exactly (as QSopt_ex does: Applegate and others 2007). Where
-CLP's last basis is not optimal, iterative refinement finds better ones: the residuals of CLP's
+CLP's last basis is not optimal, `IterativeRefinement` finds better ones: the residuals of CLP's
 point and duals are computed exactly, scaled up, and solved again from the basis before (Gleixner,
-Steffy and Wolter 2016).
+Steffy and Wolter 2016). `linear_certifier` uses both.
 """
 
 from __future__ import annotations
@@ -42,34 +42,44 @@ TOLERANCE = 1e-9  # of CLP in each round
 
 
 class Optimum(NamedTuple):
-    """An optimal point, and duals whose bound is its value."""
+    """An optimal point by column, and dual multipliers of the rows whose bound is its value."""
 
     point: Point
     duals: Multipliers
 
 
 class NearBasis(NamedTuple):
-    """A basis, with values of the columns that are near its own."""
+    """A basis that may be optimal.
+
+    Attributes:
+        values: By column, in doubles, near its basic solution: a column or row that is not basic
+            and has two bounds stands at the one that is nearer to them.
+    """
 
     basis: Basis
     values: List[float]
 
 
 def can_lift() -> bool:
-    """Whether large systems can be solved here, which SciPy is needed for."""
+    """Whether SciPy is installed, without which only systems up to MOST_ELIMINATED are solved."""
     return scipy_or_none() is not None
 
 
 def exact_optimum(program: IntegerProgram, basis: Basis, x: Sequence[float]) -> Optimum:
     """The exact basic solution of a basis and its duals, if they are optimal.
 
+    The point must keep to all bounds and rows, the duals must have the signs of an optimum, and
+    each must be 0 where its row or column does not stand at the bound that it rests on: then the
+    bound of the duals is the value of the point.
+
     Args:
         program: Its integer marks are not looked at.
-        x: Values of the columns that are near the basis' own.
+        x: By column, as `NearBasis.values`.
 
     Raises:
         NotSolved: The basis has no such solution, or it is not optimal.
         TooManyBits: Its numbers are too long to be found.
+        TimeOver: The time of exact work is over.
     """
     system = basic_system(program, basis, x)
     if len(system.columns) != len(system.rows):
@@ -95,10 +105,19 @@ def exact_optimum(program: IntegerProgram, basis: Basis, x: Sequence[float]) -> 
 def _solutions(
     program: IntegerProgram, system: BasicSystem
 ) -> Tuple[RationalVector, RationalVector]:
-    """The basic columns over `bound_scale`, and the duals of the rows that are met.
+    """The values of the basic columns, and the duals of the rows that are met exactly.
 
-    The duals are those of the costs over `cost_scale` and of coefficients over `row_scale`, in the
-    order of the system's rows: under them basic columns have the reduced cost 0.
+    Systems are lifted where SciPy is there, and eliminated where it is not, or lifting fails, and
+    they have at most MOST_ELIMINATED unknowns.
+
+    Returns:
+        By place in `system.columns` the values times `bound_scale`. By place in `system.rows` the
+        duals times `cost_scale` over `row_scale`, minimised: basic columns have the reduced cost 0
+        under them.
+
+    Raises:
+        NotSolved: A system has no solution that is found.
+        TooManyBits: A solution has more bits than are made.
     """
     size = len(system.columns)
     costs = [program.costs[j] for j in system.columns]
@@ -117,7 +136,7 @@ def _solutions(
 
 
 def _transposed(system: BasicSystem) -> List[Dict[int, int]]:
-    """By basic column its coefficients, by the places of rows."""
+    """By place of a basic column its coefficients over `row_scale`, by place in `system.rows`."""
     columns: List[Dict[int, int]] = [{} for _ in system.columns]
     for place, row in enumerate(system.matrix):
         for column, a in row:
@@ -126,6 +145,15 @@ def _transposed(system: BasicSystem) -> List[Dict[int, int]]:
 
 
 def _eliminated(rows: Sequence[Mapping[int, int]], rhs: Sequence[int]) -> RationalVector:
+    """Solves a square system by elimination in whole numbers; what it leaves free is 0.
+
+    Args:
+        rows: By equation its coefficients, by unknown from 0 on.
+        rhs: By equation its right-hand side.
+
+    Raises:
+        NotSolved: It has no solution, or takes too much work.
+    """
     values = solve_exactly(zip(rows, rhs))
     if values is None:
         raise NotSolved("the basis is singular, or takes too much work")
@@ -134,7 +162,14 @@ def _eliminated(rows: Sequence[Mapping[int, int]], rhs: Sequence[int]) -> Ration
 
 
 def _require_feasible(program: IntegerProgram, values: RationalVector) -> None:
-    """Raises NotSolved where a bound or a row is missed; values are over `bound_scale`, too."""
+    """Checks all bounds of columns and rows, exactly.
+
+    Args:
+        values: By column, times `bound_scale`.
+
+    Raises:
+        NotSolved: One is missed.
+    """
     for j, _ in program.violated_bounds(values.numerators, values.denominator):
         raise NotSolved(f"column {j} misses a bound")
     for i, _ in program.violated_rows(values.numerators, values.denominator):
@@ -148,13 +183,17 @@ def _require_complementary(
     duals: Mapping[int, int],
     denominator: int,
 ) -> None:
-    """Raises NotSolved unless all duals and reduced costs have the signs of an optimum.
+    """Checks that duals and reduced costs have the signs of an optimum (complementary slackness).
 
-    A dual that is not 0 needs the row to stand at the bound that it rests on, and a reduced cost
-    that is not 0 the column (complementary slackness).
+    A dual above 0 needs its row to stand at the lower bound, one below 0 at the upper bound; so do
+    a reduced cost `c - y A` and its column.
 
     Args:
-        duals: By row, over the denominator, in the units of `_solutions`.
+        values: By column, times `bound_scale`.
+        duals: By row, those that are not 0; over `denominator`, in the units of `_solutions`.
+
+    Raises:
+        NotSolved: One has another sign.
     """
     for i, dual in duals.items():
         if needed_row_bound(program, i, dual) != system.row_bounds[i]:
@@ -173,9 +212,11 @@ class Residuals(NamedTuple):
     """A program around a point, under duals: what is left of its bounds and of its costs.
 
     Attributes:
-        program: Its optimum is the correction of the point and of the duals.
-        primal: By how much bounds and equations are missed most.
-        dual: The largest reduced cost of a column that can go on in the direction that it wants.
+        program: Not scaled up: bounds less the point, reduced costs for costs, behind the columns
+            one for each of `slack_rows`. Its optimum is the correction of the point and the duals.
+        primal: By how much a bound or an equation is missed most; 0 where none is.
+        dual: The largest size of a reduced cost whose column has room to improve by it; 0 where
+            there is none.
     """
 
     program: DoubleProgram
@@ -184,10 +225,12 @@ class Residuals(NamedTuple):
 
 
 class IterativeRefinement:
-    """Bases that come nearer and nearer to the exact optimum.
+    """Bases that come nearer and nearer to the exact optimum (Gleixner, Steffy and Wolter 2016).
 
-    Rows that are no equations get a column more, which has their activity: so the point has their
-    values, and its reduced costs have their duals.
+    Each round solves in doubles for the correction of the point and of the duals: bounds less the
+    point are scaled up by `2**primal_shift`, reduced costs by `2**dual_shift`. Rows that are no
+    equations get a column more, which has their activity: so the point has their values, and its
+    reduced costs have their duals.
 
     Attributes:
         point: By column, whole numbers over 2 to the power of PRECISION_BITS.
@@ -195,10 +238,16 @@ class IterativeRefinement:
         slack_rows: The rows that are no equations, whose columns stand behind the others.
         primal_shift: The power of two by which residuals of the point were scaled up last.
         dual_shift: The same of the duals.
+        basis: Of the last round, by the program's own columns and rows.
     """
 
     def __init__(self, program: IntegerProgram, clp: Clp, deadline: Deadline) -> None:
-        """Begins with the optimum of a relaxation in doubles."""
+        """
+        Args:
+            clp: The relaxation of the program, solved to its optimum in doubles: the first point,
+                duals and basis are its own.
+            deadline: Of the solve in each round.
+        """
         self.program = program
         self.deadline = deadline
         self.point = [_fixed_point(v) for v in clp.values()]
@@ -212,7 +261,14 @@ class IterativeRefinement:
         self.basis = clp.basis()
 
     def bases(self) -> Iterator[NearBasis]:
-        """One a round, as long as CLP finds an optimum."""
+        """The basis of each of ROUNDS rounds, as long as CLP finds an optimum.
+
+        A round sets both shifts, adds CLP's corrections to `point` and `duals`, and sets `basis`.
+        The caller asks for no more once a basis is exactly optimal.
+
+        Raises:
+            TimeOver: Before a round: the time of exact work is over.
+        """
         for _ in range(ROUNDS):
             check_work()
             residuals = self._residuals()
@@ -230,7 +286,12 @@ class IterativeRefinement:
             yield NearBasis(self.basis, [v / (1 << PRECISION_BITS) for v in self.point])
 
     def _warm_start(self, clp: Clp) -> None:
-        """From the basis of the round before; around its point, other columns stand near 0."""
+        """The next solve of this round's program begins from `basis`.
+
+        A row that is no equation is never basic here, as its activity less its column is 0; that
+        column is basic where the row was. Values count from the point, so that a column which is
+        not basic stands at the bound that is nearest to 0.
+        """
         n = self.program.n
         rows = set(self.basis.rows)
         slacks = [n + k for k, i in enumerate(self.slack_rows) if i not in rows]
@@ -238,13 +299,22 @@ class IterativeRefinement:
         clp.warm_start(basis, [0.0] * clp.n)
 
     def _basis_of(self, clp: Clp) -> Basis:
-        """CLP's, without the columns of rows: such a row is basic where its column is."""
+        """CLP's basis in terms of the program: a row of `slack_rows` is basic where its column is.
+
+        Args:
+            clp: The program of a round, solved.
+        """
         n = self.program.n
         columns, rows = clp.basis()
         basic_rows = {self.slack_rows[j - n] for j in columns if j >= n}
         return Basis([j for j in columns if j < n], [i for i in rows if i not in basic_rows])
 
     def _residuals(self) -> Residuals:
+        """What is left of bounds and costs at the present point and duals.
+
+        Exact differences, rounded to doubles and not scaled up yet; the columns of `slack_rows`
+        stand behind the others. Made once a round, before its shifts are chosen.
+        """
         program = self.program
         lower = [self._distance(bound, v) for bound, v in zip(program.lower, self.point)]
         upper = [self._distance(bound, v) for bound, v in zip(program.upper, self.point)]
@@ -262,14 +332,24 @@ class IterativeRefinement:
         return Residuals(residual, missed, _dual_residual(lower, upper, costs))
 
     def _distance(self, bound: Bound, value: int) -> DoubleBound:
-        """Of a bound from a column's value."""
+        """A column's bound less its value, in doubles; None where there is no bound.
+
+        Args:
+            bound: Over `bound_scale`.
+            value: Over 2 to the power of PRECISION_BITS.
+        """
         scale = self.program.bound_scale
         return _difference(bound, value * scale, scale)
 
     def _row_distances(
         self, bounds: Sequence[Bound], activities: Sequence[int]
     ) -> List[DoubleBound]:
-        """Of the bounds of rows from their activities, which are over `row_scale`, too."""
+        """By row its bound less its activity, in doubles; None where there is no bound.
+
+        Args:
+            bounds: Of one side, over `bound_scale`.
+            activities: At the point, over `row_scale` and 2 to the power of PRECISION_BITS.
+        """
         scale, row_scale = self.program.bound_scale, self.program.row_scale
         return [
             None if bound is None else _difference(bound * row_scale, v * scale, scale * row_scale)
@@ -277,7 +357,11 @@ class IterativeRefinement:
         ]
 
     def _reduced_costs(self) -> List[float]:
-        """By column, and behind them the duals of rows that have a column."""
+        """By column its reduced cost `c - y A` under `duals`, exact before it is rounded.
+
+        Behind them stand the duals of `slack_rows`: a slack column costs nothing and has the
+        coefficient -1 in its row.
+        """
         program, one = self.program, 1 << PRECISION_BITS
         costs = [c * program.row_scale * one for c in program.costs]
         duals = dict(enumerate(self.duals))
@@ -286,10 +370,14 @@ class IterativeRefinement:
         return [r / scale for r in reduced] + [self.duals[i] / one for i in self.slack_rows]
 
     def _scaled_up(self, residual: DoubleProgram) -> DoubleProgram:
-        """By the shifts of this round."""
+        """The program that a round gives to CLP: bounds and costs scaled up by this round's shifts.
+
+        Bounds larger than INFINITE_BOUND fall away, and costs are cut off at LARGEST_COST.
+        """
         primal, dual = 2.0**self.primal_shift, 2.0**self.dual_shift
 
         def scaled(bounds: Sequence[DoubleBound]) -> List[DoubleBound]:
+            """Times the shift of the point; None where there is no bound, or it is too large."""
             return [
                 None if v is None or abs(v) > INFINITE_BOUND / primal else v * primal
                 for v in bounds
@@ -306,12 +394,24 @@ class IterativeRefinement:
 
 
 def _column_residual(lower: Sequence[DoubleBound], upper: Sequence[DoubleBound]) -> float:
-    """By how much a bound is missed most, of columns that count from the point."""
+    """By how much a column misses a bound most; 0 where none does.
+
+    Args:
+        lower: Bounds less the column's value: above 0 where the bound is missed.
+        upper: The same: below 0 where the bound is missed.
+    """
     return max([0.0, *filter(None, lower), *(-v for v in filter(None, upper))])
 
 
 def _equation_residual(lower: Sequence[DoubleBound], upper: Sequence[DoubleBound]) -> float:
-    """By how much an equation is missed most; other rows are columns."""
+    """By how much an equation is missed most; 0 where there is none.
+
+    What other rows miss is seen at their columns.
+
+    Args:
+        lower: By row its bound less its activity.
+        upper: The same.
+    """
     equal = (low for low, high in zip(lower, upper) if low is not None and low == high)
     return max((abs(v) for v in equal), default=0.0)
 
@@ -319,7 +419,16 @@ def _equation_residual(lower: Sequence[DoubleBound], upper: Sequence[DoubleBound
 def _dual_residual(
     lower: Sequence[DoubleBound], upper: Sequence[DoubleBound], costs: Sequence[float]
 ) -> float:
-    """The largest cost of a column that can go on in the direction that it wants."""
+    """The largest size of a reduced cost whose column has room to improve the objective; else 0.
+
+    A column with a cost above 0 wants to fall, another one to rise. It has room where the bound on
+    that side is none, or is more than FREE_DISTANCE away.
+
+    Args:
+        lower: Bounds less the column's value, not scaled up.
+        upper: The same.
+        costs: Reduced costs, minimised.
+    """
     found = 0.0
     for cost, low, high in zip(costs, lower, upper):
         bound = low if cost > 0 else high
@@ -329,25 +438,41 @@ def _dual_residual(
 
 
 def _fixed_point(value: float, shift: int = 0) -> int:
-    """A double over 2 to the power of `shift`, in binary places."""
+    """The double times 2 to the power of `-shift`, as a whole number over 2**PRECISION_BITS.
+
+    It is exact but for what lies below the last binary place, which is rounded down.
+    """
     numerator, denominator = value.as_integer_ratio()
     return (numerator << PRECISION_BITS - shift) // denominator
 
 
 def _corrected(values: Sequence[int], corrections: Sequence[float], shift: int) -> List[int]:
-    """Values with corrections that were scaled up; those behind the values are left out."""
+    """The values and corrections of a round: `value + correction / 2**shift`.
+
+    Args:
+        values: Over 2 to the power of PRECISION_BITS, as the answer is.
+        corrections: As CLP has them, scaled up by `2**shift`. Those behind the values, which are
+            of slack columns, are left out.
+    """
     return [v + _fixed_point(correction, shift) for v, correction in zip(values, corrections)]
 
 
 def _difference(bound: Bound, value: int, scale: int) -> DoubleBound:
-    """A bound over `scale` less a value that is over PRECISION_BITS binary places as well."""
+    """`bound / scale - value / (scale * 2**PRECISION_BITS)`, exact but for the last rounding.
+
+    None where there is no bound.
+    """
     if bound is None:
         return None
     return ((bound << PRECISION_BITS) - value) / (scale << PRECISION_BITS)
 
 
 def _next_shift(shift: int, residual: float) -> int:
-    """The power of two that brings a residual to about 1, not too much above the one before."""
+    """The exponent of the power of two that brings a residual to about 1, for the next round.
+
+    It is at least 0, and at most SHIFT_STEP above that of the round before (`shift`), and
+    LARGEST_SHIFT; a residual below LEAST_RESIDUAL gets the most.
+    """
     most = min(shift + SHIFT_STEP, LARGEST_SHIFT)
     if residual < LEAST_RESIDUAL:
         return most

@@ -15,8 +15,8 @@ and a node of the tree is one of
     duals COUNT, weights COUNT          a leaf: multipliers, with lines `ROW MULTIPLIER`
 
 A plane's branch, and a cut behind its proof, is one row more of the program: below it, it has the
-next free number. Text is written from the `tree` of the search, and is read as a `Certificate` by
-what explains it.
+next free number. Text is written from the `tree` of the search (`evidence`, `cuts`), as lines
+without ends, and is read as a `Certificate` by the pages that explain it.
 """
 
 from __future__ import annotations
@@ -58,11 +58,11 @@ class NodeKind(enum.Enum):
 
 
 class ObjectiveRow(NamedTuple):
-    """The row of a disjunction on the objective, in whose lower branch a tree stands.
+    """The row `form <= floor` of a disjunction on the objective, below which a tree stands.
 
     Attributes:
         number: Of the row in the text.
-        spacing: How much of the objective a step of 1 of its form is.
+        spacing: How much of the minimised objective a step of 1 of its form is.
     """
 
     number: int
@@ -77,7 +77,8 @@ class RowNumbering(NamedTuple):
             the file, which are not named here, have their own.
         next_number: Of the row of the first disjunction in the tree.
         dual_sign: -1 where the file maximises, since duals in a text are the file's own; else 1.
-        objective_row: Where there is one, duals become Farkas multipliers by adding this row.
+        objective_row: Where there is one, minimised duals become Farkas multipliers: with `spacing`
+            times this row they prove that nothing better is there.
     """
 
     numbers: Mapping[int, int]
@@ -97,7 +98,11 @@ FormRows = Dict[int, BranchRows]  # by the place of a form among the program's r
 
 
 def number_text(value: int | Fraction) -> str:
-    """The shorter one of its decimal and its fraction."""
+    """A number as certificates write it, exactly: the shorter of its decimal and its fraction.
+
+    A decimal begins with its point where it is below 1 in size (`.5`); a whole number that ends in
+    more than MOST_ZEROS zeros has an exponent (`12e6`); a fraction is in lowest terms (`7/3`).
+    """
     exact = Fraction(value)
     if exact.denominator == 1:
         text = str(exact.numerator)
@@ -113,6 +118,11 @@ def number_text(value: int | Fraction) -> str:
 
 
 def _listed(head: str, values: Mapping[int, Fraction | int], end: str = "") -> Iterator[str]:
+    """The line `HEAD COUNT END`, then a line `INDEX NUMBER` of each value, by rising index.
+
+    Args:
+        end: What stands behind the count, with its space.
+    """
     yield f"{head} {len(values)}{end}"
     for i in sorted(values):
         yield f"{i} {number_text(values[i])}"
@@ -125,11 +135,14 @@ def claim_lines(
     point: Optional[Point] = None,
     ray: Optional[Point] = None,
 ) -> Iterator[str]:
-    """The lines before the tree.
+    """The lines of a certificate before its tree: heading, claim, and its point and ray.
 
     Args:
-        objective: Its number in the file; None where the claim is about none.
-        value: Of the objective, in the file's own sense, where the claim has one.
+        claim: The word of the claim, as `optimal`; the caller gives what that word needs.
+        objective: Its number in the file, from 0; None where the claim is about none.
+        value: The bound that is claimed, in the file's own sense, where the claim has one.
+        point: By column; values that are 0 are not written.
+        ray: The same.
     """
     words = [claim]
     if objective is not None:
@@ -146,9 +159,12 @@ def claim_lines(
 def lines_of_answer(values: Sequence[str], duals: Sequence[str], objective: int) -> Iterator[str]:
     """The certificate that an answer is itself: its values are the point, its duals the one leaf.
 
+    It claims `optimal`, without duals `feasible`; `0` and `-0` are not written.
+
     Args:
-        values: Decimals by column.
-        duals: Decimals by row; without duals the claim is that the point is feasible.
+        values: Texts of decimals, by column.
+        duals: Texts of decimals, by row of the file, in the objective's own sense; empty without.
+        objective: Its number in the file, from 0.
     """
     yield HEADING
     yield f"{'optimal' if duals else 'feasible'} {objective}"
@@ -161,23 +177,36 @@ def lines_of_answer(values: Sequence[str], duals: Sequence[str], objective: int)
 
 
 def disjunction_lines(form: Mapping[int, int], floor: int) -> Iterator[str]:
-    """The line of a split disjunction and its form: at most `floor`, or at least `floor + 1`."""
+    """The lines of a split disjunction: the form is at most `floor`, or at least `floor + 1`.
+
+    The two branches come behind them, the lower one first.
+
+    Args:
+        form: Coefficients by column.
+    """
     return _listed(NodeKind.DISJUNCTION.value, form, f" {number_text(floor)}")
 
 
 def multiplier_lines(values: Mapping[int, Fraction], kind: MultiplierKind) -> Iterator[str]:
-    """A leaf, by the numbers that rows have in the text."""
+    """The lines of a leaf: multipliers by the number that each row has in the text.
+
+    Duals are in the file's own sense.
+    """
     return _listed(kind.value, values)
 
 
 def leaf_lines(
     leaf: Multipliers, numbering: RowNumbering, form_rows: Optional[FormRows] = None
 ) -> Iterator[str]:
-    """A leaf, by the rows of the program.
+    """The lines of a leaf, whose multipliers are by place among the program's rows.
+
+    Duals get the file's own sense, or below an objective's row become Farkas multipliers.
 
     Args:
-        form_rows: Of the forms that are bounded on the path to the leaf. A multiplier above 0 rests
-            on the lower bound of its row, one below 0 on the upper one.
+        leaf: Its duals are minimised.
+        form_rows: Of the forms that are bounded on the path to the leaf: their multipliers go to
+            the rows of branches. One above 0 rests on the lower bound of its row, one below 0 on
+            the upper one.
     """
     kind, sign = leaf.kind, 1
     values: Dict[int, Fraction] = {}
@@ -196,11 +225,15 @@ def leaf_lines(
 
 
 def tree_lines(program: IntegerProgram, tree: Tree, numbering: RowNumbering) -> Iterator[str]:
-    """All nodes of a tree.
+    """The lines of all nodes of a tree, in its order.
+
+    The rows of a disjunction's two branches have the same number: `numbering.next_number` plus the
+    count of disjunctions above it.
 
     Args:
         program: On which the tree stands: a split of a column behind its columns is one of the form
             that is the program's row there.
+        tree: The whole of it, without subtrees that another process holds.
     """
     waiting: List[Tuple[FormRows, int]] = [({}, numbering.next_number)]
     for node in tree:
@@ -223,7 +256,11 @@ def tree_lines(program: IntegerProgram, tree: Tree, numbering: RowNumbering) -> 
 
 
 def _empty_domain_lines(node: EmptyDomain, number: int) -> Iterator[str]:
-    """A disjunction on the column, each branch of which contradicts one of its bounds."""
+    """A disjunction on the column, each branch of which contradicts one of its bounds.
+
+    Args:
+        number: That the rows of its two branches have in the text.
+    """
     yield from disjunction_lines({node.column: 1}, node.at)
     for sign in (-1, 1):
         yield from multiplier_lines({number: Fraction(sign)}, MultiplierKind.FARKAS)
@@ -232,11 +269,14 @@ def _empty_domain_lines(node: EmptyDomain, number: int) -> Iterator[str]:
 def cut_lines(
     coefficients: Mapping[int, int], rhs: int, proof: MIRProof, numbers: Mapping[int, int]
 ) -> Iterator[str]:
-    """A cut with its proof, whose disjunction has the number that the cut itself gets behind it.
+    """The lines of an MIR cut and its proof: a disjunction, with a leaf of duals in each branch.
+
+    The duals bound the left side from above.
 
     Args:
         coefficients: Of its left side, by column, which is at most `rhs`.
-        numbers: Of rows in the text, by their place among the program's rows.
+        numbers: Of rows in the text, by their place among the program's rows; that of `proof.row`
+            is the number that the cut itself gets behind its proof.
     """
     yield from _listed(NodeKind.CUT.value, coefficients, f" {number_text(rhs)}")
     yield from disjunction_lines(proof.split.form, proof.split.floor)
@@ -246,11 +286,12 @@ def cut_lines(
 
 
 def refutation_lines(refutation: IntegerRefutation, row: int) -> Iterator[str]:
-    """The whole certificate that there is no integer point, by a disjunction both of whose
-    branches are contradicted.
+    """The whole certificate of `infeasible`: a disjunction, with Farkas multipliers in each branch.
+
+    In each branch its row contradicts what the refutation shows of the form.
 
     Args:
-        row: The count of the file's rows, which is the number of the disjunction's own.
+        row: The count of the file's rows, which is the number of the branches' own.
     """
     yield from claim_lines("infeasible", None)
     yield from disjunction_lines(refutation.form, refutation.floor)
@@ -279,9 +320,11 @@ class Node:
         branch: Which child of its parent it is: 0 for `at most` and for the proof of a cut, 1 for
             the other one.
         depth: The count of nodes above it.
-        column: That a split is of.
-        at: The text of the number in the line of a split, a disjunction or a cut.
-        entries: Indices and numbers of the lines behind it: columns, or of a leaf rows.
+        column: That a split is of; -1 of others.
+        at: The text of the last number in the line of a split, a disjunction or a cut: the most in
+            the lower branch, or the cut's right-hand side. Empty of a leaf.
+        entries: The lines behind it, as an index and the text of a number: of a disjunction or a
+            cut by column, of a leaf by row; a split has none.
         leaf_number: Of a leaf, from 0 in the order of the text; -1 of others.
         size: Nodes of its subtree, itself among them.
         leaves: Leaves of its subtree.
@@ -302,6 +345,10 @@ class Node:
     )
 
     def __init__(self, kind: NodeKind, line: int, parent: int, branch: int, depth: int) -> None:
+        """A node of which the rest is not read yet; it is the only one of its subtree, and no leaf.
+
+        The arguments are the attributes of the same name.
+        """
         self.kind = kind
         self.line = line
         self.parent = parent
@@ -324,11 +371,12 @@ class Certificate(NamedTuple):
 
     Attributes:
         claim: The word of its second line.
-        objective: The number of the objective; None under `infeasible`.
-        numbers: The other numbers of that line.
+        objective: The number of the objective in the file, from 0; None under `infeasible`.
+        numbers: The numbers behind it: the bound, of `within` and `bound`.
         point: Values by column that are not 0; None where the claim has no point.
         ray: The same of a ray.
-        nodes: Each before those below it; a place is an index into them.
+        nodes: Each before those below it; a place is an index into them. Empty where the claim has
+            no tree.
     """
 
     claim: str
@@ -339,14 +387,14 @@ class Certificate(NamedTuple):
     nodes: List[Node]
 
     def children(self, place: int) -> List[int]:
-        """The places of the two nodes below one; of a leaf none."""
+        """The places of the two nodes below a place, that of branch 0 first; of a leaf none."""
         if self.nodes[place].is_leaf:
             return []
         first = place + 1
         return [first, first + self.nodes[first].size]
 
     def path(self, place: int) -> List[int]:
-        """From the root to the node, itself among them."""
+        """The places from the root to a place, both among them."""
         found = []
         while place != ROOT:
             found.append(place)
@@ -354,14 +402,18 @@ class Certificate(NamedTuple):
         return found[::-1]
 
     def branches(self, place: int) -> List[Tuple[Node, int]]:
-        """The nodes above a node, from the root on, each with its branch that leads there."""
+        """The nodes above a place, from the root on, each with its `branch` that leads there."""
         path = self.path(place)
         return [
             (self.nodes[above], self.nodes[below].branch) for above, below in zip(path, path[1:])
         ]
 
     def place_of_leaf(self, number: int) -> int:
-        """By its number in the order of the text."""
+        """The place of the leaf of this `leaf_number`, as the judge names the one that fails.
+
+        Raises:
+            StopIteration: There is no such leaf.
+        """
         return next(p for p, node in enumerate(self.nodes) if node.leaf_number == number)
 
 
@@ -370,6 +422,11 @@ _Records = Iterator[Tuple[int, List[str]]]  # lines that have words: their numbe
 
 def read_certificate(lines: Iterable[str]) -> Certificate:
     """The certificate of these lines, which the proved program has judged before.
+
+    Nothing is checked but what reading needs, and what stands behind the last node is not read.
+
+    Args:
+        lines: Of the text, with ends or without; blank ones count in the numbers of lines alone.
 
     Raises:
         ValueError: It is not as the proved program takes it.
@@ -392,6 +449,11 @@ def read_certificate(lines: Iterable[str]) -> Certificate:
 
 
 def _read_entries(records: _Records, count: int) -> List[Tuple[int, str]]:
+    """The next `count` lines, each as an index and the text of a number.
+
+    Raises:
+        StopIteration: There are fewer lines.
+    """
     found = []
     for _ in range(count):
         _, words = next(records)
@@ -400,12 +462,21 @@ def _read_entries(records: _Records, count: int) -> List[Tuple[int, str]]:
 
 
 def _read_values(records: _Records) -> Dict[int, Fraction]:
-    """A point or a ray."""
+    """The point or the ray whose head is the next line: values by column.
+
+    Raises:
+        StopIteration: There are too few lines.
+    """
     _, words = next(records)
     return {j: Fraction(value) for j, value in _read_entries(records, int(words[1]))}
 
 
 def _read_tree(records: _Records) -> List[Node]:
+    """The nodes of the tree that comes next, in the order of the text, until no branch is open.
+
+    Raises:
+        StopIteration: There are too few lines.
+    """
     nodes: List[Node] = []
     waiting = [(ROOT, 0)]  # branches that are to come: their parents, and which they are
     leaves = 0
@@ -432,6 +503,10 @@ def _read_tree(records: _Records) -> List[Node]:
 
 
 def _count_subtrees(nodes: Sequence[Node]) -> None:
+    """Makes each node's `size` and `leaves` those of its subtree, from its own 1, and 0 or 1.
+
+    Parents stand before children. Called once, at the end of reading a tree.
+    """
     for node in reversed(nodes):
         if node.parent != ROOT:
             above = nodes[node.parent]

@@ -2,6 +2,7 @@
 
 Which proofs are tried for what a solver said, and what is told of them where the time is over. The
 judge alone decides what is proved: whatever goes wrong here costs a certificate, and no more.
+`pipeline.certification` calls `certify` once for each answer.
 """
 
 from __future__ import annotations
@@ -47,17 +48,22 @@ def certify(
 ) -> Evidence:
     """What can be proved of a program, beginning with what a solver said of it.
 
+    While it works, and afterwards no more, the time of all exact work of this thread and of all
+    solves of CLP is limited.
+
     Args:
         judge: Is given certificates, and says what each of them proves.
         claim: What the solver said.
-        answer: The solver's numbers.
+        answer: The solver's numbers; those of a claim of a point have values.
         deadline: The time that there is. An interrupt of it ends the search, and what is known then
             is claimed. None: as long as it takes.
-        on_progress: Is told what goes on.
+        on_progress: Is told what goes on, in place of what the deadline had told.
+        options: What is asked; among it the number of the objective.
         pool: Other processes that search.
 
     Returns:
-        The first evidence that is proved, else why nothing is.
+        The first evidence that is proved, else why nothing is. Its numbers are by columns and rows
+        of the program, and in the objective's own sense.
     """
     deadline = deadline or SearchDeadline()
     if on_progress is not None:
@@ -68,13 +74,19 @@ def certify(
 
 
 def limit_all_work(deadline: Deadline) -> None:
-    """Exact work, and solves of CLP, end with it."""
+    """From now on exact work of this thread, and each solve of CLP in this process, end with it.
+
+    Exact work then raises TimeOver; a solve just stops, with the status OTHER.
+    """
     limit_work(deadline)
     Clp.restrict(deadline)
 
 
 class Certifier:
-    """Tries proofs of one program."""
+    """Tries proofs of one program: each method is one way, by what the solver said.
+
+    What is found on the way stays in `store`, so that it is claimed where the time is over.
+    """
 
     def __init__(self, task: CertificationTask) -> None:
         self.task = task
@@ -84,7 +96,11 @@ class Certifier:
         self.integer = IntegerCertifier(task, self.refuter, self.linear)
 
     def certify(self, claim: AnswerClaim) -> Evidence:
-        """Tries what fits the claim; where the time is over, what is known by then."""
+        """Tries what fits the claim, within the deadline; the front of all that is below.
+
+        Where the time is over, what is known by then is claimed, and `may_be_unbounded` is said of
+        it. Where CLP is not installed or a search ended, that is the reason why nothing is proved.
+        """
         try:
             limit_all_work(Deadline(self.task.deadline.left_to_find()))
             return self._tried(claim)
@@ -97,7 +113,10 @@ class Certifier:
             limit_all_work(Deadline())
 
     def certify_point(self) -> Evidence:
-        """That a point is optimal, else that it is feasible, with a bound where there is one."""
+        """Where the solver has a point: that it is optimal, else a point and a bound.
+
+        Of the relaxation of an integer program only bounds are tried.
+        """
         if self.task.is_linear:
             return first_proved(self.linear.certify(self.task.answer))
         if self.task.options.is_relaxation:
@@ -107,13 +126,14 @@ class Certifier:
         return self.integer.certify_answer(values)
 
     def certify_infeasible(self) -> Evidence:
-        """That there is no point."""
+        """Where the solver found no point: that there is none, else what a point shows."""
         return first_proved(self.refute())
 
     def certify_unknown(self) -> Evidence:
-        """Where the solver has no point: a bound.
+        """Where the solver says nothing: a bound.
 
-        Of an integer program a disjunction comes first, and with `proves` a refutation or a point.
+        Of an integer program, unless its relaxation is meant, a disjunction that refutes it comes
+        first, and with `proves` a tree that does, or what follows from a point found by it.
         """
         tried = [self._bounds()]
         if not self.task.is_linear and not self.task.options.is_relaxation:
@@ -123,7 +143,15 @@ class Certifier:
         return first_proved(itertools.chain(*tried))
 
     def certify_unbounded(self) -> Evidence:
-        """By a point and a ray; else what is optimal, or a bound."""
+        """Where the solver said unbounded: a point and a ray; else what is optimal, or a bound.
+
+        A disjunction that refutes the program comes before all. Of an integer program a refutation
+        by a tree is tried behind the ray with `proves`, or where bounds of columns alone bound the
+        objective; of its relaxation nothing more is tried.
+
+        Returns:
+            What is proved, else why a ray is not.
+        """
         first = self._refutation_or_ray()
         options, is_linear = self.task.options, self.task.is_linear
         if first.is_proved or options.is_relaxation and not is_linear:
@@ -136,15 +164,19 @@ class Certifier:
         return found if found.is_proved else first
 
     def certify_infeasible_or_unbounded(self) -> Evidence:
-        """Where the solver does not say which of both it is."""
+        """Where the solver does not say which of both it is: a ray, then that there is no point."""
         first = self._refutation_or_ray()
         return first if first.is_proved else first_proved(self.refute())
 
     def refute(self) -> Iterator[Evidence]:
-        """That there is no point; where one is found, what follows from it."""
+        """That there is no point; where one is found, what follows from it.
+
+        Each is tried when it is asked for.
+        """
         return self.refuter.refute(self._certify_from_point)
 
     def _tried(self, claim: AnswerClaim) -> Evidence:
+        """What the way that fits the claim finds, with no heed to errors and the end of time."""
         ways: Mapping[AnswerClaim, Callable[[], Evidence]] = {
             AnswerClaim.POINT: self.certify_point,
             AnswerClaim.INFEASIBLE: self.certify_infeasible,
@@ -155,17 +187,25 @@ class Certifier:
         return ways[claim]()
 
     def _certify_from_point(self, point: Point) -> Iterator[Evidence]:
+        """What follows from a feasible point that a refutation has found instead of a proof."""
         if self.task.is_linear:
             return self.linear.certify_from_point(point)
         return self.integer.certify_from_point(point)
 
     def _refutation_or_ray(self) -> Evidence:
-        """By a disjunction, which is asked for first, or by a point and a ray."""
+        """That a disjunction refutes the program, which is tried first, or a point and a ray.
+
+        Where neither is proved, why there is no ray.
+        """
         found = first_proved(self.refuter.rounding_refutations())
         return found if found.is_proved else self.refuter.certify_ray()
 
     def _bounds(self) -> Iterator[Evidence]:
-        """Of a linear program what is true of it, of another one a bound."""
+        """What can be said without an answer's point: of an integer program mostly a bound.
+
+        Of a linear program all that is tried for an answer. Then come claims of what is stored, the
+        bound by bounds of columns alone among it, and at last why nothing is proved.
+        """
         if self.task.is_linear:
             yield from self.linear.certify(AnswerByPlace())
         else:
@@ -175,7 +215,12 @@ class Certifier:
         yield not_proved("there is no point")
 
     def _known(self) -> Iterator[Evidence]:
-        """What there is where the time is over: a tree, the best point, the closest bound."""
+        """What there is where the time is over: a tree, the best point, the closest bound.
+
+        Exact work and CLP are unlimited here, but for a bound that is still made: that ends
+        KEPT_SECONDS before all must have ended. The last says why there is no proof, and whether
+        the answer is contradicted.
+        """
         limit_all_work(Deadline())
         yield from self.integer.claim_known_tree()
         limit_all_work(Deadline(self.task.deadline.left_of_all() - KEPT_SECONDS))
@@ -188,7 +233,11 @@ class Certifier:
         yield not_proved(reason)._replace(contradicts_answer=is_contradicted)
 
     def _add_bound_at_last(self) -> None:
-        """The bound that the answer's duals, or searches that are stopped, can have in short time."""
+        """Adds to the store a bound that is had in short time.
+
+        Of a linear program that of the answer's duals, rounded to few digits; of an integer one, of
+        which a point is known and a bound is wanted, that of its stopped searches and relaxation.
+        """
         task, options = self.task, self.task.options
         if task.is_linear and task.answer.duals is not None:
             duals = rounded_duals(task.program, self._duals_in_doubles())
@@ -198,15 +247,21 @@ class Certifier:
                 self.integer.add_root_bound()
 
     def _has_point(self) -> bool:
+        """Whether an exact feasible point is known, be it too wide for a certificate."""
         return self.store.point is not None or self.integer.incumbent is not None
 
     def _duals_in_doubles(self) -> Dict[int, float]:
-        """Those of the answer, as the program is minimised."""
+        """The answer's duals by row, as the program is minimised; empty where it has none."""
         sign = self.task.program.sign
         return {row: float(sign * dual) for row, dual in (self.task.answer.duals or {}).items()}
 
     def _with_bound_in_doubles(self, evidence: Evidence) -> Evidence:
-        """With what the answer's own duals say, where the time of a run without `proves` is over."""
+        """The evidence, with what the answer's own duals say in doubles; no proof rests on that.
+
+        Where they bound the objective at the answer's point, `is_optimal_in_doubles` and the note
+        are set. That is for answers with values and duals, of linear programs or relaxations, in
+        runs without `proves` whose time is over before `optimal` is proved; else nothing changes.
+        """
         task = self.task
         answer, options = task.answer, task.options
         is_told = answer.values is not None and answer.duals is not None
