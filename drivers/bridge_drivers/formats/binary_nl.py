@@ -1,4 +1,4 @@
-"""Binary .nl files as text.
+"""Binary .nl files as text, for `formats.nl`.
 
 The proved program reads text alone, and AMPL's `solve` writes binary files. They are read after
 Gay, "Writing .nl Files" (2005), and tested against pairs that AMPL's own library wrote. A file has
@@ -43,6 +43,9 @@ REAL_SUFFIX = 4  # this bit of a suffix's kind says that its values are doubles
 def text_of_binary(data: bytes) -> bytes:
     """The same program as text.
 
+    Args:
+        data: The whole file.
+
     Raises:
         ValueError: It is no binary .nl file, or is one that is cut or damaged; the text says how.
     """
@@ -53,9 +56,17 @@ def text_of_binary(data: bytes) -> bytes:
 
 
 class _BinaryReader:
-    """Reads segments in their order into lines of text, from the place `at` on."""
+    """Reads segments in their order into lines of text, from the place `at` on.
+
+    Attributes:
+        at: The byte of `data` that is read next.
+        order: The byte order, in the letters of `struct`.
+        lines: The lines of text so far, without their ends; at first the head's ten.
+        intervals: How many intervals the segments b (one a variable) and r (one a constraint) have.
+    """
 
     def __init__(self, data: bytes) -> None:
+        """Reads the head; ValueError or IndexError where it is none."""
         self.data = data
         self.at = 0
         for _ in range(HEAD_LINES):
@@ -68,33 +79,51 @@ class _BinaryReader:
         self.intervals: Dict[str, int] = {"b": counts[0], "r": counts[1]}
 
     def text(self) -> bytes:
+        """Reads all segments; the whole text in bytes.
+
+        Raises:
+            ValueError: A segment, node, count or kind of interval is unknown.
+            struct.error: The file ends too soon.
+        """
         while self.at < len(self.data):
             self._segment(self._letter())
         return ("\n".join(self.lines) + "\n").encode("latin-1")
 
     def _take(self, form: str) -> Any:
-        """One value in a form of `struct`."""
+        """Reads one value in a form of `struct`, such as `i` or `d`, and goes on behind it."""
         value = struct.unpack_from(self.order + form, self.data, self.at)[0]
         self.at += struct.calcsize(self.order + form)
         return value
 
     def _letter(self) -> str:
+        """Reads one byte that names a segment, a node or a kind of interval."""
         return str(self._take("c"), "latin-1")
 
     def _count(self) -> int:
-        """How many things follow, each of at least a byte."""
+        """Reads how many things follow, each of at least a byte, so that a damaged count ends here.
+
+        Raises:
+            ValueError: It is negative, or larger than the file.
+        """
         count: int = self._take("i")
         if not 0 <= count <= len(self.data):
             raise ValueError(f"a count of {count}")
         return count
 
     def _double(self) -> str:
+        """Reads a double, and returns its shortest decimal."""
         return shortest_decimal(self._take("d"))
 
     def _name(self) -> str:
+        """Reads a count and a name of so many bytes; the name without zero bytes at its end."""
         return str(self._take(f"{self._count()}s").rstrip(b"\0"), "latin-1")
 
     def _segment(self, letter: str) -> None:
+        """Reads the segment of this letter, with its head and all that follows, into `lines`.
+
+        Raises:
+            ValueError: The letter is none of a segment.
+        """
         if letter not in SEGMENT_HEADS:
             raise ValueError(f"an unknown segment {letter!r}")
         head = SEGMENT_HEADS[letter]
@@ -106,7 +135,13 @@ class _BinaryReader:
         self._body(letter, numbers)
 
     def _body(self, letter: str, numbers: List[int]) -> None:
-        """What follows the head of a segment, which has these numbers."""
+        """Reads what follows the head of a segment into `lines`.
+
+        Args:
+            letter: The segment's.
+            numbers: Those of its head, as SEGMENT_HEADS lists them. The kind of a suffix stands
+                first.
+        """
         count = numbers[SEGMENT_HEADS[letter].find("n")] if numbers else 0
         if letter in WITH_PAIRS:
             self._pairs(count, is_whole=letter == "S" and not numbers[0] & REAL_SUFFIX)
@@ -118,20 +153,31 @@ class _BinaryReader:
             self.lines += [str(self._take("i")) for _ in range(count)]
 
     def _pairs(self, count: int, *, is_whole: bool) -> None:
-        """Lines `index value`."""
+        """Reads so many pairs into lines `index value`.
+
+        Args:
+            is_whole: Values are 4-byte integers, else doubles.
+        """
         for _ in range(count):
             index = self._take("i")
             value = self._take("i") if is_whole else self._double()
             self.lines.append(f"{index} {value}")
 
     def _expression(self) -> None:
-        """A line a node, until no operand is missing; nothing recurses."""
+        """Reads an expression in prefix form, a line a node, until no operand is missing.
+
+        Nothing recurses.
+        """
         missing = 1
         while missing:
             missing += self._node() - 1
 
     def _node(self) -> int:
-        """One node of an expression; how many operands follow it."""
+        """Reads one node of an expression into `lines`, and returns how many operands follow it.
+
+        Raises:
+            ValueError: Its letter is unknown, or it is a piecewise linear term.
+        """
         letter = self._letter()
         if letter == "o":
             return self._operator(self._take("i"))
@@ -153,7 +199,14 @@ class _BinaryReader:
         return 0
 
     def _operator(self, opcode: int) -> int:
-        """How many operands follow it."""
+        """Writes the line of an operator, and that of its count of operands where the file has one.
+
+        Returns:
+            How many operands follow it.
+
+        Raises:
+            ValueError: It is a piecewise linear term, which is not turned into text.
+        """
         if opcode == PIECEWISE_LINEAR:
             raise ValueError("piecewise-linear terms")
         self.lines.append(f"o{opcode}")
@@ -164,7 +217,11 @@ class _BinaryReader:
         return operands
 
     def _interval(self) -> str:
-        """A line of r or b: the kind of interval, and its ends."""
+        """Reads one interval of r or b; its line: the kind, and its ends (see INTERVALS).
+
+        Raises:
+            ValueError: The kind is unknown.
+        """
         kind = self._letter()
         if kind not in INTERVALS:
             raise ValueError(f"an unknown side {kind!r}")

@@ -34,7 +34,7 @@ class ModelKind(enum.Enum):
 
 
 class Packing(enum.Enum):
-    """How a file is packed: the end of its name, and its first bytes."""
+    """How a file is packed: the end of its name, and its first bytes (`end` and `mark`)."""
 
     GZIP = ".gz", b"\x1f\x8b"
     BZIP2 = ".bz2", b"BZh"
@@ -49,7 +49,11 @@ class Packing(enum.Enum):
         return self.value[1]
 
     def unpack(self, packed: BinaryIO) -> BinaryIO:
-        """The stream of what is packed in a stream."""
+        """The stream of what is packed in a stream, which unpacks as it is read.
+
+        A damaged stream raises when it is read: OSError, EOFError, ValueError, or the errors of
+        zlib and lzma.
+        """
         return cast(BinaryIO, _UNPACKERS[self](packed))
 
 
@@ -128,12 +132,16 @@ KIND_OF_END: Dict[str, FileKind] = {end: kind for kind in KINDS for end in kind.
 
 
 def packing_of(start: bytes) -> Optional[Packing]:
-    """By a file's first bytes; None where it is not packed."""
+    """How a file is packed, by its first bytes (six are enough); None where it is not."""
     return next((packing for packing in Packing if start.startswith(packing.mark)), None)
 
 
 def is_mps_start(start: bytes) -> bool:
-    """Whether a text's first line that is neither empty nor a comment is a head of MPS."""
+    """Whether a text's first line that is neither empty nor a comment is a head of MPS.
+
+    Args:
+        start: The first bytes, unpacked. A file that was cut before such a line is none.
+    """
     at = 0
     while at < len(start):
         end = start.find(b"\n", at)
@@ -165,7 +173,7 @@ def is_lp_start(start: bytes) -> bool:
 
 
 def is_nl_start(start: bytes) -> bool:
-    """Whether a text begins with the first two lines of an .nl file, of text or binary."""
+    """Whether a text begins with the first two lines of an .nl file, of text (g) or binary (b)."""
     first, _, rest = start.partition(b"\n")
     is_first = NL_FIRST_LINE.fullmatch(first.rstrip(b"\r")) is not None
     return is_first and NL_SECOND_LINE.match(rest) is not None
@@ -181,7 +189,7 @@ def model_kind_of_start(start: bytes) -> Optional[ModelKind]:
 
 
 def kind_of_start(start: bytes) -> Optional[FileKind]:
-    """By a file's first bytes; None where they do not tell."""
+    """What a file is that is no .nl file, by its first bytes; None where they do not tell."""
     for kind in KINDS:
         if kind.mark and start.startswith(kind.mark):
             return kind
@@ -193,7 +201,7 @@ def kind_of_start(start: bytes) -> Optional[FileKind]:
 
 
 def start_of_file(path: str) -> bytes:
-    """What a plain file begins with, unpacked where it is packed; nothing where it is not read."""
+    """The first LOOKED_AT bytes of a plain file, unpacked; none where it cannot be read."""
     try:
         with open(path, "rb") as file:
             packing = packing_of(file.read(6))
@@ -204,7 +212,11 @@ def start_of_file(path: str) -> bytes:
 
 
 def kind_of_file(path: str) -> Optional[FileKind]:
-    """By what it begins with, else by its name; None where neither tells, or it is not read."""
+    """What a file is that is no .nl file: by what it begins with, else by the end of its name.
+
+    None where neither tells, or it cannot be opened. A packed file is not unpacked: it is of its
+    packing's kind.
+    """
     try:
         with open(path, "rb") as file:
             start = file.read(LOOKED_AT)
@@ -214,7 +226,11 @@ def kind_of_file(path: str) -> Optional[FileKind]:
 
 
 def is_packed_file(path: str) -> bool:
-    """Whether it is a plain file that is packed."""
+    """Whether it is a plain file that begins as a packed one.
+
+    Raises:
+        OSError: It is there, and cannot be read.
+    """
     if not os.path.isfile(path):
         return False
     with open(path, "rb") as file:
@@ -222,7 +238,10 @@ def is_packed_file(path: str) -> bool:
 
 
 def is_mps_file(path: str) -> bool:
-    """Whether it is a plain file of MPS, packed or not, by its first bytes or its name."""
+    """Whether it is a plain file of MPS, packed or not, by its first bytes or its name.
+
+    A program (ELF) whose name ends with .mps is none.
+    """
     if not os.path.isfile(path):
         return False
     start = start_of_file(path)
@@ -230,9 +249,9 @@ def is_mps_file(path: str) -> bool:
 
 
 def split_model_name(path: str) -> Tuple[str, str]:
-    """The path of a model without its ends, and the end that is not of its packing.
+    """The path of a model without its ends, and its own end in small letters, not its packing's.
 
-    `model` and `.mps` of `model.mps.gz`; the path and nothing where it has none of a model.
+    `model` and `.mps` of `model.mps.gz`; the whole path and "" where it has no end of a model.
     """
     stub, end = os.path.splitext(path)
     if end.lower() in {packing.end for packing in Packing}:
@@ -241,17 +260,21 @@ def split_model_name(path: str) -> Tuple[str, str]:
 
 
 def stub_of(path: str) -> str:
+    """The path without the ends of a model: `model` of `model.mps.gz`; others stay as they are."""
     return split_model_name(path)[0]
 
 
 def end_of(path: str) -> str:
+    """`.nl` or `.mps`, also in front of the end of a packing; "" of other names."""
     return split_model_name(path)[1]
 
 
 def describe(path: str, kind: FileKind, shown: str = "") -> str:
-    """`is an MPS file: ..`, with what takes it.
+    """`is an MPS file: ..`, with what takes it, to stand behind the file's name in a message.
 
     Args:
+        path: Where it stands.
+        kind: As `kind_of_file` tells it.
         shown: What the user calls the file, where that is not its path.
     """
     shown = shown or path
@@ -262,7 +285,10 @@ def describe(path: str, kind: FileKind, shown: str = "") -> str:
 
 
 def explain_missing_model(word: str) -> str:
-    """Why there is no model where the word of a call says that there is one."""
+    """Why there is no model where the word of a call says that there is one, in a whole sentence.
+
+    It is a folder, a file of another kind, there is a model in another form beside it, or nothing.
+    """
     path = word if end_of(word) else word + ".nl"
     for folder in (path, word):
         if os.path.isdir(folder):

@@ -83,9 +83,11 @@ class MpsColumns:
     upper: List[WrittenBound]
 
     def bounds(self) -> Tuple[List[bytes], List[bytes]]:
-        """Lower and upper bounds of all columns, empty where there are none.
+        """Lower and upper bounds of all columns as they are written, empty where there are none.
 
-        A column without a lower bound goes from 0 on, but for one whose upper bound is below 0.
+        A column without a lower bound goes from 0 on, but for one whose upper bound is below 0,
+        which has no lower end. Without an upper bound it has no upper end, whether it is integer or
+        not.
         """
         lower = [b"0" if bound is None else bound for bound in self.lower]
         for column in self.negative_upper_bounds():
@@ -93,7 +95,11 @@ class MpsColumns:
         return lower, [bound or b"" for bound in self.upper]
 
     def negative_upper_bounds(self) -> List[int]:
-        """Columns whose upper bound is below 0, which takes their unset lower one away."""
+        """The columns, by place, whose upper bound is below 0 and whose lower bound is not written.
+
+        The upper bound takes their lower one away; other readers of MPS keep 0, so that a note
+        tells of them.
+        """
         return [
             column
             for column, (lower, upper) in enumerate(zip(self.lower, self.upper))
@@ -101,10 +107,10 @@ class MpsColumns:
         ]
 
     def row_bounds(self) -> RowBounds:
-        """What right-hand sides and ranges say of rows.
+        """What right-hand sides and ranges say of rows, over their least common denominator.
 
-        A range R of a row G or L reaches |R| from its right-hand side; of a row E it reaches R
-        upwards if R is not negative, else |R| downwards.
+        A row without a side has 0. A range R of a row G or L reaches |R| from its right-hand side;
+        of a row E it reaches R upwards if R is not negative, else |R| downwards.
         """
         texts = list({b"0", *self.rhs.values(), *self.ranges.values()})
         numerators, denominator = decimals_over_common_denominator(texts)
@@ -122,19 +128,23 @@ class MpsColumns:
 
 
 def read_mps(text: bytes) -> MpsColumns:
-    """A text in the written form. Of another one that is taken, nothing is said."""
+    """A text in the written form, as the proved program wrote it and nobody else.
+
+    The form is not checked: of another text it raises KeyError or IndexError, or answers something
+    else than what the text says.
+    """
     return _MpsReader(text).columns_read()
 
 
 class _Section(NamedTuple):
-    """The lines of a section, within the whole text."""
+    """The lines of a section without its head: the text's bytes from `start` as far as `stop`."""
 
     text: bytes = b""
     start: int = 0
     stop: int = 0
 
     def blocks(self) -> Iterator[bytes]:
-        """Whole lines, some thousands at once."""
+        """The bytes of whole lines with their ends, in pieces of some more than BLOCK bytes."""
         at = self.start
         while at < self.stop:
             end = self.text.find(b"\n", at + BLOCK, self.stop) + 1 or self.stop
@@ -150,7 +160,7 @@ class _Section(NamedTuple):
 
 
 def _sections(text: bytes) -> List[_Section]:
-    """In the order of SECTIONS; those that are missing are empty."""
+    """The six sections of a text in the order of SECTIONS; those that are missing are empty."""
     text = b"\n" + text
     starts: Dict[bytes, int] = {}
     for name in SECTIONS:
@@ -166,7 +176,18 @@ def _sections(text: bytes) -> List[_Section]:
 
 
 class _MpsReader:
-    """Goes through the sections of a text once, in their order."""
+    """Goes through the sections of a text once, in their order, as it is made.
+
+    The fields that are not told here are those of `MpsColumns`, which `columns_read` makes of them.
+
+    Attributes:
+        place_of_row: By name of each row its number from 0; OBJECTIVE or EXTRA_OBJECTIVE of N rows.
+        entry_counts: By column how many entries it has.
+        place_of_number: By number as it is written its place in `numbers`, given when first asked
+            for.
+        rhs: The section, whose lines are read by `columns_read`.
+        ranges: The same.
+    """
 
     def __init__(self, text: bytes) -> None:
         self.kinds: List[str] = []
@@ -190,6 +211,7 @@ class _MpsReader:
         self._read_bounds(bounds)
 
     def columns_read(self) -> MpsColumns:
+        """What was read, its entries in arrays of NumPy."""
         counts = np.array(self.entry_counts, dtype=np.int64)
         return MpsColumns(
             maximise=self.maximise,
@@ -209,11 +231,13 @@ class _MpsReader:
         )
 
     def _by_row(self, section: _Section) -> Dict[int, bytes]:
-        """The values of lines `SET ROW VALUE`."""
+        """The values of lines `SET ROW VALUE`, by the row's place; the last of a row's lines
+        counts.
+        """
         return {self.place_of_row[words[2]]: words[3] for words in section.records()}
 
     def _read_rows(self, section: _Section) -> None:
-        """Lines `KIND ROW`."""
+        """Reads lines `KIND ROW` into `kinds`, `rows`, `objective` and `place_of_row`."""
         for _, kind, name in section.records():
             if kind != b"N":
                 self.place_of_row[name] = len(self.kinds)
@@ -226,7 +250,11 @@ class _MpsReader:
                 self.objective = name
 
     def _read_columns(self, section: _Section) -> None:
-        """Lines `COLUMN ROW VALUE`, or a marker, between which columns are integer."""
+        """Reads lines `COLUMN ROW VALUE` by blocks, three words each.
+
+        A marker `NAME 'MARKER' 'INTORG'` has as many words; between it and 'INTEND' columns are
+        integer.
+        """
         is_integer = False
         for block in section.blocks():
             words = block.replace(b"\n", b"").split(b" ")
@@ -249,7 +277,14 @@ class _MpsReader:
         *,
         is_integer: bool,
     ) -> None:
-        """Entries of columns that all are integer, or all are not."""
+        """Adds entries, of columns that all are integer or all are not, behind those added before.
+
+        Args:
+            names: By entry its column. The entries of a column stand together; the first ones may
+                go on the last column of the entries before.
+            rows: By entry its row's name.
+            values: By entry its number as it is written.
+        """
         counts = Counter(names)
         if self.columns and self.columns[-1] in counts:
             self.entry_counts[-1] += counts.pop(self.columns[-1])
@@ -260,7 +295,11 @@ class _MpsReader:
         self.entry_numbers.extend(array("i", list(map(self.place_of_number.__getitem__, values))))
 
     def _read_bounds(self, section: _Section) -> None:
-        """Lines `KIND SET COLUMN VALUE`. Those of a column stand together, columns in their order."""
+        """Reads lines `KIND SET COLUMN VALUE` into `lower` and `upper`; some make a column integer.
+
+        Mostly the lines of a column stand together and columns in their order, so that the last
+        place tells the next one.
+        """
         at, last = -1, b""
         for block in section.blocks():
             words = _words_of_bounds(block)
@@ -270,7 +309,7 @@ class _MpsReader:
                 name = third if first else fourth
                 if name != last:
                     last = name
-                    at = self._place_behind(at, name)
+                    at = self._place_after(at, name)
                 if kind == b"LO":  # most bounds are of these two kinds
                     self.lower[at] = fourth
                 elif kind == b"UP":
@@ -278,16 +317,31 @@ class _MpsReader:
                 else:
                     self._set_bound(at, kind, fourth)
 
-    def _place_behind(self, place: int, name: bytes) -> int:
-        """Of a column, which mostly stands behind the one before."""
+    def _place_after(self, place: int, name: bytes) -> int:
+        """The place of the column of this name, which is mostly the next one.
+
+        Args:
+            place: Of the column whose bounds stand before, -1 at first.
+
+        Raises:
+            KeyError: No column has this name.
+        """
         at = (place + 1) % len(self.columns)
         return at if self.columns[at] == name else self._place_of_column[name]
 
     @cached_property
     def _place_of_column(self) -> Dict[bytes, int]:
+        """The places of all columns by name, made only where one is not found at the next place."""
         return {name: place for place, name in enumerate(self.columns)}
 
     def _set_bound(self, column: int, kind: bytes, value: bytes) -> None:
+        """Sets the bounds of a column, by place, as the kind of a line of BOUNDS says.
+
+        BV, LI and UI make the column integer, too.
+
+        Args:
+            value: The number of the line, as it is written; not looked at for a kind without one.
+        """
         if kind in LOWER_BOUNDS:
             fixed = LOWER_BOUNDS[kind]
             self.lower[column] = value if fixed is None else fixed
@@ -299,7 +353,7 @@ class _MpsReader:
 
 
 def _words_of_bounds(block: bytes) -> List[bytes]:
-    """The words of lines of bounds, behind an empty one: four of each line.
+    """The words of lines of bounds, behind an empty one: four of each line, KIND SET COLUMN VALUE.
 
     Where there is no value, an empty word stands behind the kind: the set's name is then the third
     word of the line, and the column's name the fourth.
@@ -311,7 +365,11 @@ def _words_of_bounds(block: bytes) -> List[bytes]:
 
 
 def _markers(block: bytes, values: Sequence[bytes]) -> List[int]:
-    """The lines of a block that are markers, whose values are no numbers."""
+    """The places, among the lines of a block of COLUMNS, of those that are markers.
+
+    Args:
+        values: The third word of each line: of a marker 'INTORG' or 'INTEND', else a number.
+    """
     if b"'MARKER'" not in block:
         return []
     marks = (INTEGERS_BEGIN, INTEGERS_END)
@@ -319,10 +377,11 @@ def _markers(block: bytes, values: Sequence[bytes]) -> List[int]:
 
 
 def canonical(read: MpsColumns) -> MpsColumns:
-    """The same program as `bridge export` would write it, in its own numbering.
+    """The same program as `bridge export` would write it, in its own numbering; for `write_mps`.
 
-    Row i is ci, column j is xj and the objective is obj. Other N rows are left out, a row E with a
-    range becomes G or L, and each column has both bounds set.
+    Row i is ci, column j is xj and the objective is obj. Other N rows and a constant of 0 are left
+    out, a row E with a range becomes G or L, and each column has both bounds set. Arrays that stay
+    the same are shared with what was read.
     """
     own = copy.copy(read)
     own.objective = b"obj"
@@ -344,7 +403,11 @@ def canonical(read: MpsColumns) -> MpsColumns:
 
 
 def _canonical_ranges(read: MpsColumns) -> Tuple[List[str], Dict[int, bytes]]:
-    """Kinds of rows, and positive ranges of rows G and L."""
+    """Kinds of rows, and ranges by row without their sign, where no row E has a range any more.
+
+    A range of a row E makes it L if it is negative, else G, and is left out where it is 0; ranges
+    of N rows are left out, too.
+    """
     kinds = list(read.kinds)
     ranges: Dict[int, bytes] = {}
     for row, text in read.ranges.items():
@@ -357,12 +420,12 @@ def _canonical_ranges(read: MpsColumns) -> Tuple[List[str], Dict[int, bytes]]:
 
 
 def write_mps(own: MpsColumns) -> bytes:
-    """The text of a program in its canonical form, as `bridge export` writes it."""
+    """The text of a program in the form of `canonical`, as `bridge export` writes it."""
     return b"\n".join(_lines(own)) + b"\n"
 
 
 def _lines(own: MpsColumns) -> Iterator[bytes]:
-    """All lines of a text, without their ends."""
+    """All lines of a canonical text, without their ends."""
     rows = [*own.rows, own.objective]
     yield b"NAME nl"
     if own.maximise:
@@ -384,7 +447,11 @@ def _lines(own: MpsColumns) -> Iterator[bytes]:
 
 
 def _column_lines(own: MpsColumns, rows: List[bytes]) -> Iterator[bytes]:
-    """Those of integer columns between markers; each column has a line at least."""
+    """The lines of COLUMNS, integer columns between markers; each column has a line at least.
+
+    Args:
+        rows: The names of all rows, and behind them that of the objective, whose place is -1.
+    """
     entries: List[List[bytes]] = [[] for _ in own.columns]
     places = (own.entry_rows, own.entry_columns, own.entry_numbers)
     for row, column, number in zip(*(part.tolist() for part in places)):
@@ -403,7 +470,12 @@ def _column_lines(own: MpsColumns, rows: List[bytes]) -> Iterator[bytes]:
 
 
 def _bound_lines(column: bytes, lower: WrittenBound, upper: WrittenBound) -> Iterator[bytes]:
-    """One line or two."""
+    """The line of a column in BOUNDS where it is fixed or free, else the two of both its bounds.
+
+    Args:
+        lower: As it is written; empty (or None) where there is none.
+        upper: The same.
+    """
     if lower and lower == upper:
         yield b" FX BND %s %s" % (column, lower)
     elif not lower and not upper:

@@ -1,7 +1,8 @@
 """What other programs write in MPS files and the proved program does not read, repaired in a copy.
 
 The text is gone through by lines: its head, as far as COLUMNS, and its first BOUNDS section. Each
-line is looked at once, whatever it has.
+line is looked at once, whatever it has. `formats.source.read_model` calls `repair_mps` for each MPS
+file.
 """
 
 from __future__ import annotations
@@ -20,19 +21,23 @@ BARE_KINDS: Dict[Tuple[bytes, bytes], bytes] = {  # by kind and sign of the infi
 
 
 class RepairedMps(NamedTuple):
-    """A text as it is judged, and what there is to say of its repair; no notes: it is as it was."""
+    """A text as it is judged, and what to tell of its repair; without notes it is as it was."""
 
     text: bytes
     notes: List[str]
 
 
 class _Line(NamedTuple):
+    """A line of the text, from byte `start` as far as `end`, and its words."""
+
     start: int
     end: int  # without the line's end
     words: List[bytes]
 
 
 class _Edit(NamedTuple):
+    """What is written in place of the text's bytes from `start` as far as `end`."""
+
     start: int
     end: int
     text: bytes
@@ -65,7 +70,7 @@ def repair_mps(text: bytes) -> RepairedMps:
 
 
 def _lines(text: bytes, start: int) -> Iterator[_Line]:
-    """From a place on which a line begins."""
+    """The lines of a text from a place on, at which a line begins."""
     while start < len(text):
         end = text.find(b"\n", start)
         end = len(text) if end < 0 else end
@@ -79,11 +84,16 @@ def _is_head(text: bytes, line: _Line) -> bool:
 
 
 def _is_comment(line: _Line) -> bool:
+    """Whether the first word of a line begins with a star; an empty line is no comment."""
     return bool(line.words) and line.words[0].startswith(b"*")
 
 
 def _sense_repair(text: bytes) -> Optional[_Edit]:
-    """Of the first MAXIMISE or MINIMISE below or behind OBJSENSE."""
+    """The edit that makes MAX or MIN of the first MAXIMISE or MINIMISE of the section OBJSENSE.
+
+    The word may stand on the section's head or on a line below it. None where there is no such
+    word.
+    """
     for head, line, words in _records(text):
         found = BRITISH.match(words[0]) if head.words[0].upper() == b"OBJSENSE" and words else None
         if found is not None:
@@ -93,7 +103,10 @@ def _sense_repair(text: bytes) -> Optional[_Edit]:
 
 
 def _objective_repair(text: bytes) -> Optional[_Edit]:
-    """Leaves OBJNAME out, where the first N row has its name."""
+    """The edit that leaves OBJNAME out where it names the first N row; else None.
+
+    The name may stand on the section's head or below it, but in front of ROWS alone.
+    """
     name, edit = b"", _Edit(0, 0, b"")
     for head, line, words in _records(text):
         section = head.words[0].upper()
@@ -105,7 +118,12 @@ def _objective_repair(text: bytes) -> Optional[_Edit]:
 
 
 def _records(text: bytes) -> Iterator[Tuple[_Line, _Line, List[bytes]]]:
-    """Of each line before COLUMNS that is no comment its section's head, and its data."""
+    """Goes through the lines before COLUMNS that are no comments.
+
+    Yields:
+        The head of the section that the line is in, the line, and its words of data: of a head
+            those behind the section's name.
+    """
     head: Optional[_Line] = None
     for line in _lines(text, 0):
         words = line.words
@@ -121,7 +139,7 @@ def _records(text: bytes) -> Iterator[Tuple[_Line, _Line, List[bytes]]]:
 
 
 def _bound_edits(text: bytes) -> Iterator[_Edit]:
-    """Of the lines of the BOUNDS section."""
+    """The edits of the lines of the first BOUNDS section, in their order; see `_bound_edit`."""
     start = 0 if text.startswith(b"BOUNDS") else text.find(b"\nBOUNDS") + 1
     if not text.startswith(b"BOUNDS", start):
         return
@@ -136,7 +154,11 @@ def _bound_edits(text: bytes) -> Iterator[_Edit]:
 
 
 def _bound_edit(text: bytes, line: _Line) -> Optional[_Edit]:
-    """Of a line `KIND [SET] COLUMN VALUE` whose value is an infinity that says nothing."""
+    """The edit of a line `KIND [SET] COLUMN VALUE` whose value is an infinity that bounds nothing.
+
+    LO with minus infinity becomes MI, UP with infinity PL, both without the value. None of all
+    other lines: an infinity that would be a bound stays for the proved program to refuse.
+    """
     if _is_comment(line) or len(line.words) not in (3, 4):
         return None
     kind, value = line.words[0], line.words[-1]
@@ -150,6 +172,7 @@ def _bound_edit(text: bytes, line: _Line) -> Optional[_Edit]:
 
 
 def _edited(text: bytes, edits: List[_Edit]) -> bytes:
+    """The text with its edits, which may come in any order and do not overlap."""
     pieces, at = [], 0
     for edit in sorted(edits):
         pieces += [text[at : edit.start], edit.text]

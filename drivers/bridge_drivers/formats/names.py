@@ -14,7 +14,10 @@ ROWS, COLUMNS = ".row", ".col"
 
 
 def comment_of(line: bytes) -> str:
-    """What stands behind the mark # of an .nl line; nothing where there is none."""
+    """What stands behind the mark # of an .nl line, controls escaped; "" where there is no comment.
+
+    The mark counts at the line's begin or behind a blank alone.
+    """
     found = COMMENT.search(line.rstrip(b"\r\n"))
     if found is None:
         return ""
@@ -22,7 +25,12 @@ def comment_of(line: bytes) -> str:
 
 
 def numbered_name(thing: str, name: str) -> str:
-    """`constraint 0 (Cap)`, or without a name `constraint 0`."""
+    """`constraint 0 (Cap)`, or without a name `constraint 0`.
+
+    Args:
+        thing: A word with a number.
+        name: "" where it has none.
+    """
     return f"{thing} ({name})" if name else thing
 
 
@@ -51,45 +59,71 @@ class NameLists:
 
     @staticmethod
     def of(rows: Sequence[str], columns: Sequence[str], constraints: int) -> NameLists:
-        """Names that are known, those of `constraints` rows and then of the objective."""
+        """Names that are known already, so that no file is read for them.
+
+        Args:
+            rows: The names of the constraints, and behind them that of the objective.
+            columns: The names of all variables.
+            constraints: How many of `rows` are constraints.
+        """
         names = NameLists("", len(columns), constraints)
         names._lists = {ROWS: list(rows), COLUMNS: list(columns)}
         return names
 
     def row(self, number: int) -> str:
-        """The name of a constraint, or of an objective behind them; nothing where it has none."""
+        """The name at a place of the list of rows, then objectives; "" where it has none."""
         return self._name(ROWS, number)
 
     def column(self, number: int) -> str:
-        """The name of a variable; nothing where it has none."""
+        """The name of a variable by its number from 0; "" where it has none."""
         return self._name(COLUMNS, number)
 
     def constraint(self, number: int, comment: str = "") -> str:
-        """`constraint 0 (Cap)`; a comment of the model is its name for want of a list."""
+        """`constraint 0 (Cap)`, for messages.
+
+        Args:
+            number: From 0.
+            comment: That of the model's line, which is its name for want of a list.
+        """
         return numbered_name(f"constraint {number}", self.row(number) or comment)
 
     def objective(self, number: int, comment: str = "") -> str:
-        """`objective 0 (Cost)`."""
+        """`objective 0 (Cost)`, for messages.
+
+        Args:
+            number: From 0; its name stands so far behind the constraints in the list of rows.
+            comment: That of the model's line: its name for want of a list, or of `constraints`.
+        """
         name = "" if self.constraints is None else self.row(self.constraints + number)
         return numbered_name(f"objective {number}", name or comment)
 
     def variable(self, number: int) -> str:
-        """`variable 2 (Buy)`."""
+        """`variable 2 (Buy)`, for messages; numbers are from 0."""
         return numbered_name(f"variable {number}", self.column(number))
 
     def operand(self, number: int, comment: str) -> str:
-        """A variable or defined variable in an expression: its name, else `x2` or `v7`."""
+        """How an expression's variable or defined variable is called: its name, else `x2` or `v7`.
+
+        Args:
+            number: As it stands behind the v of the .nl line; from `variables` on it is a defined
+                one.
+            comment: That of the line, which stands in for a name that no list has.
+        """
         if self.variables is not None and number >= self.variables:
             return comment or f"v{number}"
         return self.column(number) or comment or f"x{number}"
 
     def _name(self, ending: str, number: int) -> str:
+        """The name at a place of the list with this ending; "" beyond its end. The list is read
+        once.
+        """
         if ending not in self._lists:
             self._lists[ending] = self._read(ending)
         names = self._lists[ending]
         return names[number] if 0 <= number < len(names) else ""
 
     def _read(self, ending: str) -> List[str]:
+        """The lines with words of a file beside the model; none where that cannot be read."""
         text = b""
         if self.stub:
             with contextlib.suppress(OSError):

@@ -27,7 +27,10 @@ class NlHeader(NamedTuple):
     """What the first two lines of an .nl file say.
 
     Attributes:
-        options: Numbers that a .sol repeats.
+        options: Numbers behind the g or b of the first line, as texts, which a .sol repeats.
+        constraints: The count of rows.
+        variables: The count of columns.
+        objectives: How many there are; 0 where the file does not say it.
     """
 
     options: List[str]
@@ -37,9 +40,10 @@ class NlHeader(NamedTuple):
 
 
 def read_header(path: str) -> NlHeader:
-    """The first two lines, which are text in both forms.
+    """What the first two lines say, which are text in both forms, text and binary.
 
     Raises:
+        OSError: The file cannot be read.
         ValueError: They are not those of an .nl file.
         IndexError: The same.
     """
@@ -70,13 +74,17 @@ def text_of_nl(
 ) -> TextOfNl:
     """The file itself where it can be read as it is, else a text of the same program.
 
+    A driver calls it before each `export`, and a binary file is turned into text so.
+
     Args:
         path: A plain file.
         target: Where a text is written, if one is made.
         shortens: Printed doubles are replaced by their shortest decimals.
-        tells_printed: Where nothing is replaced, a note tells of the first printed double.
+        tells_printed: Where nothing is replaced, a note tells of the first printed double that
+            stands in the first LOOKED_THROUGH bytes.
 
     Raises:
+        OSError: The file cannot be read, or the target not be written.
         Damaged: It is a binary file that is cut or damaged.
         ModelRefused: The target is the file itself.
     """
@@ -101,6 +109,11 @@ def text_of_nl(
 
 
 def _text_of_binary_file(path: str, data: bytes, target: str) -> TextOfNl:
+    """The text of a binary file, written to `target`, and the note on it; `data` is the whole file.
+
+    Raises:
+        Damaged: It ends too soon or is damaged.
+    """
     try:
         text = text_of_binary(data)
     except ValueError as fault:
@@ -111,10 +124,15 @@ def _text_of_binary_file(path: str, data: bytes, target: str) -> TextOfNl:
 
 
 def with_shortest_decimals(data: bytes) -> Tuple[bytes, int]:
-    """Each decimal of many digits as the shortest one of the same double, and how many changed."""
+    """The text with shortest decimals in place of printed doubles, and how many it changed.
+
+    A decimal with a point and PRINTED_DIGITS digits or more is read as a double, and written as the
+    shortest decimal of that double.
+    """
     changed = 0
 
     def shortened(found: re.Match[bytes]) -> bytes:
+        """What stands in place of one decimal; counted in `changed` where it is another text."""
         nonlocal changed
         text = found.group()
         if _significant_digits(text) < PRINTED_DIGITS:
@@ -127,7 +145,12 @@ def with_shortest_decimals(data: bytes) -> Tuple[bytes, int]:
 
 
 def printed_doubles_note(data: bytes) -> List[str]:
-    """A note where the first decimal of many digits is that of a double with fewer."""
+    """A note, or none, on the first decimal of PRINTED_DIGITS digits or more of an .nl text.
+
+    There is one where the shortest decimal of its double is at least three characters shorter,
+    which speaks for a double that was printed with too many digits. Later decimals are not looked
+    at.
+    """
     decimals = (found[0] for found in DECIMAL.finditer(data))
     text = next((word for word in decimals if _significant_digits(word) >= PRINTED_DIGITS), b"0")
     shortest = shortest_decimal(float(text))
@@ -140,6 +163,9 @@ def printed_doubles_note(data: bytes) -> List[str]:
 
 
 def _significant_digits(decimal: bytes) -> int:
-    """How many a decimal has, zeros at its end counted."""
+    """How many digits a decimal has in front of its exponent, without zeros at its start.
+
+    Those at its end count.
+    """
     mantissa = re.split(rb"[eE]", decimal)[0].lstrip(b"-0.")
     return sum(c in b"0123456789" for c in mantissa)

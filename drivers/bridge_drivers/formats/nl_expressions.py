@@ -1,4 +1,4 @@
-"""An expression of an .nl file in words, such as `((5 * x1) + >>(x0 * x1)<<)`.
+"""An expression of an .nl file in words, such as `((5 * x1) + >>(x0 * x1)<<)`, for refusals.
 
 An expression stands in prefix form, a node a line. It may be a million operators deep, so nothing
 recurses; and what is made of it is kept short: of long sums the first terms, of deep expressions
@@ -23,13 +23,18 @@ LONGEST_NUMBER = 9  # digits of a count or index
 
 
 class _Phrase(NamedTuple):
-    """A piece of text, and whether the mark is in it."""
+    """The words of a part of an expression, and whether the mark of the fault is in them."""
 
     text: str
     is_marked: bool = False
 
     def shortened(self) -> str:
-        """Short enough to stand in a line; the mark stays, with what is around it."""
+        """The text, cut so that it can stand in a line; `..` stands for what is left out.
+
+        A phrase with the mark keeps it, with KEPT_AROUND_MARK characters on each side, where it is
+        longer than LONGEST_MARKED; another one keeps its start and end, where it is longer than
+        LONGEST_PHRASE.
+        """
         text = self.text
         if self.is_marked:
             if len(text) <= LONGEST_MARKED:
@@ -50,6 +55,9 @@ class _Node:
         missing: How many operands are to come; COUNTED where their count stands on the next line.
         opcode: None where it is no operator.
         has_arguments: Whether its operands follow its name in parentheses, if nothing else is said.
+        is_fault: Whether it is the node that is marked.
+        operands: Those that are kept, in their order.
+        leaves_out: Whether an operand was not kept.
     """
 
     def __init__(
@@ -69,7 +77,9 @@ class _Node:
         self.leaves_out = False
 
     def take(self, operand: _Phrase) -> None:
-        """The next operand: the first ones are kept, and a marked one."""
+        """Takes the next operand, and keeps it if it is one of the first MOST_OPERANDS or has
+        the mark.
+        """
         self.missing -= 1
         if len(self.operands) < MOST_OPERANDS or operand.is_marked:
             self.operands.append(operand)
@@ -77,7 +87,7 @@ class _Node:
             self.leaves_out = True
 
     def phrase(self) -> _Phrase:
-        """The node with the operands that it has so far."""
+        """The node in words with the operands that it has so far, marked where it is the fault."""
         texts = [operand.shortened() for operand in self.operands]
         if self.leaves_out:
             texts.append(LEFT_OUT)
@@ -87,6 +97,10 @@ class _Node:
         return _Phrase(text, any(operand.is_marked for operand in self.operands))
 
     def _with_operands(self, texts: List[str]) -> str:
+        """The name with its operands: `(a + b)`, `(a <= b)`, `max(a, b)`; a leaf alone.
+
+        An infix operator that has not two operands yet is written as a function.
+        """
         is_infix = self.opcode is not None and operator_of(self.opcode).is_infix
         if self.opcode == SUM and texts:
             return f"({' + '.join(texts)})"
@@ -99,10 +113,13 @@ def expression_in_words(lines: Iterable[bytes], names: NameLists, mark: int = -1
     """The expression that begins on the first of the lines, in words.
 
     Args:
-        mark: The line, from 0, whose node is the fault.
+        lines: Of the .nl text; those behind the end of the expression are not read.
+        names: Those of variables.
+        mark: The line, from 0, whose node is the fault; -1 for none.
 
     Returns:
-        Nothing where the first line is no node. Where the lines end too soon, as far as they go.
+        "" where the first line is no node. Where the lines end too soon, or one is no node, the
+            expression as far as it goes, with `..` where it is cut.
     """
     open_nodes: List[_Node] = []
     numbered = enumerate(lines)
@@ -124,7 +141,10 @@ def expression_in_words(lines: Iterable[bytes], names: NameLists, mark: int = -1
 
 
 def _cut_off(open_nodes: List[_Node]) -> str:
-    """The expression whose lines end while these nodes are open."""
+    """The expression as far as it goes: its lines end while these nodes, outermost first, are open.
+
+    Each open node becomes the last operand of the one around it, and `..` its own last one.
+    """
     inner: List[_Phrase] = []
     for node in reversed(open_nodes):
         for phrase in inner:
@@ -135,7 +155,7 @@ def _cut_off(open_nodes: List[_Node]) -> str:
 
 
 def _node_of(line: bytes, names: NameLists) -> Optional[_Node]:
-    """None where the line is no node."""
+    """The node that a line of an .nl expression is, without operands; None where it is none."""
     text = _content(line)
     kind, rest = text[:1], text[1:]
     if kind in ("n", "s", "l"):
@@ -148,7 +168,14 @@ def _node_of(line: bytes, names: NameLists) -> Optional[_Node]:
 
 
 def _operator_node(line: bytes, kind: str, words: List[str]) -> Optional[_Node]:
-    """A function `f` or an operator `o`, whose number is the first word."""
+    """The node of a function `f` or an operator `o`; None where its first word is no number.
+
+    Args:
+        line: The whole line, whose comment names a function.
+        kind: `f` or `o`.
+        words: Those behind it: the number of the operator; or of the function, and its count of
+            operands.
+    """
     if not words or not _is_number(words[0]):
         return None
     if kind == "o":
@@ -158,6 +185,7 @@ def _operator_node(line: bytes, kind: str, words: List[str]) -> Optional[_Node]:
 
 
 def _operation(opcode: int) -> _Node:
+    """The node of an operator by its number; one of piecewise linear terms is a leaf."""
     if opcode == PIECEWISE_LINEAR:
         return _Node("piecewise(..)", opcode=opcode)
     operator = operator_of(opcode)
@@ -165,14 +193,15 @@ def _operation(opcode: int) -> _Node:
 
 
 def _content(line: bytes) -> str:
-    """A line without its comment."""
+    """A line without its comment and outer blanks; bytes that are not UTF-8 become surrogates."""
     return line.split(b"#", 1)[0].strip().decode("utf-8", "surrogateescape")
 
 
 def _is_number(word: str) -> bool:
+    """Whether a word is an index or a count: ASCII digits alone, at most LONGEST_NUMBER."""
     return word.isascii() and word.isdigit() and len(word) <= LONGEST_NUMBER
 
 
 def _number_in(words: List[str]) -> int:
-    """The first word; 0 where it is no number."""
+    """The value of the first word; 0 where there is none or it is no number."""
     return int(words[0]) if words and _is_number(words[0]) else 0

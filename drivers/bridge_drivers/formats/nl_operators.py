@@ -1,6 +1,7 @@
 """The operators of .nl expressions: their names, and how many operands follow each.
 
-The numbers are those of Gay, "Writing .nl Files" (2005).
+The numbers are those of Gay, "Writing .nl Files" (2005). Expressions are told in words by them
+(`nl_expressions`), and binary files are read by them (`binary_nl`).
 """
 
 from __future__ import annotations
@@ -27,10 +28,12 @@ class Operator(NamedTuple):
 
 
 def _infix(name: str) -> Operator:
+    """An operator of two operands that is written between them."""
     return Operator(name, 2, is_infix=True)
 
 
 def _over_list(name: str) -> Operator:
+    """An operator whose count of operands follows it in the file."""
     return Operator(name, COUNTED)
 
 
@@ -108,5 +111,8 @@ OPERATORS: Mapping[int, Operator] = {
 
 
 def operator_of(opcode: int) -> Operator:
-    """An unknown one is told by its number, and taken to have one operand."""
+    """The operator of a number as it stands behind the o of a file.
+
+    An unknown one is called by its number, and taken to have one operand.
+    """
     return OPERATORS.get(opcode, Operator(f"opcode {opcode}"))

@@ -42,6 +42,12 @@ class ScientificNumber(NamedTuple):
 def read_decimal(text: bytes) -> ScientificNumber:
     """The one reader of decimals: an optional sign, digits with at most one point, an exponent.
 
+    Args:
+        text: Without blanks, such as `-1.50e3`; a point without digits on one side is taken.
+
+    Returns:
+        The exact value; `integer` keeps its zeros at the end.
+
     Raises:
         NotDecimal: The text is none, or longer than is read.
     """
@@ -60,7 +66,11 @@ def read_decimal(text: bytes) -> ScientificNumber:
 
 @lru_cache(maxsize=1 << 16)
 def read_fraction(text: bytes) -> Fraction:
-    """The exact value of a decimal. It is remembered: in a program most stand many times."""
+    """The exact value of a decimal. It is remembered: in a program most stand many times.
+
+    Raises:
+        NotDecimal: As `read_decimal`.
+    """
     integer, exponent = read_decimal(text)
     if exponent >= 0:
         return Fraction(integer * 10**exponent)
@@ -68,14 +78,22 @@ def read_fraction(text: bytes) -> Fraction:
 
 
 def decimals_over_common_denominator(texts: Sequence[bytes]) -> Tuple[List[int], int]:
-    """Numerators of decimals over their least common denominator, and that denominator."""
+    """Numerators of decimals, in their order, over their least common denominator, and the latter.
+
+    Raises:
+        NotDecimal: As `read_decimal`.
+    """
     numbers = list(map(read_decimal, texts))
     least = min([0, *(exponent for _, exponent in numbers)])
     return lowest_terms([v * 10 ** (exponent - least) for v, exponent in numbers], 10**-least)
 
 
 def lowest_terms(numerators: List[int], denominator: int) -> Tuple[List[int], int]:
-    """The same fractions over their least common denominator."""
+    """The same fractions over their least common denominator; the given one is positive.
+
+    Returns:
+        The numerators in their order and the denominator, all divided by their common divisor.
+    """
     common = gcd(denominator, *numerators)
     if common <= 1:
         return numerators, denominator
@@ -83,7 +101,12 @@ def lowest_terms(numerators: List[int], denominator: int) -> Tuple[List[int], in
 
 
 def exact_decimal(value: Fraction) -> Optional[str]:
-    """The decimal of a fraction; None where it has none that the proved program holds."""
+    """The decimal of a fraction; None where it has none that the proved program holds.
+
+    A fraction has a decimal where its denominator has no prime factors but 2 and 5. One of up to 30
+    places is written with a point, one of more with an exponent, and a whole number above 2^127 - 1
+    with an exponent where its zeros allow it.
+    """
     rest = value.denominator
     twos = (rest & -rest).bit_length() - 1
     rest >>= twos
@@ -107,7 +130,9 @@ def exact_decimal(value: Fraction) -> Optional[str]:
 
 
 def _with_exponent(integer: int) -> Optional[str]:
-    """A wide whole number as a narrower one times a power of ten; None where it is still too wide."""
+    """A wide whole number as a narrower one times a power of ten; None where it is too wide
+    still.
+    """
     digits = str(abs(integer)).rstrip("0")
     zeros = len(str(abs(integer))) - len(digits)
     if int(digits) > LARGEST_INTEGER or zeros > LARGEST_EXPONENT:
@@ -116,7 +141,9 @@ def _with_exponent(integer: int) -> Optional[str]:
 
 
 def nearest_decimal(value: Fraction) -> str:
-    """The nearest decimal of 17 digits; 0 for what lies below 1e-380.
+    """The nearest decimal of 17 digits, half to even; 0 for what lies below 1e-380.
+
+    For a fraction of which `exact_decimal` is None; the text is then not exact.
 
     Raises:
         NotDecimal: The value lies above 1e380.
@@ -147,9 +174,13 @@ def decimal(value: Number) -> Tuple[str, bool]:
 
 
 def decimals(values: Sequence[Number]) -> Tuple[List[str], int]:
-    """Many values as texts, and how many of the texts are not exact.
+    """Many values as texts, in their order, and how many of the texts are not exact.
 
-    Each object that is no double is written once, since most of them stand many times.
+    Each object that is no double is written once, since most of them stand many times. All is as
+    `decimal` does it, but a sequence of doubles alone is written faster.
+
+    Raises:
+        NotDecimal: As `decimal`.
     """
     if set(map(type, values)) == {float}:
         return _shortest_decimals(values), 0
@@ -161,19 +192,29 @@ def decimals(values: Sequence[Number]) -> Tuple[List[str], int]:
 
 
 def shortest_decimal(value: float) -> str:
-    """The shortest decimal of the same double: -0.0 is -0, and what is not finite has its name."""
+    """The shortest decimal that is read as the same double, without a final .0.
+
+    A zero keeps its sign, as -0, and what is not finite is `inf`, `-inf` or `nan`: for texts of .nl
+    files, where no double may change. For answers use `decimal`.
+    """
     text = repr(value)
     return text[:-2] if text.endswith(".0") else text
 
 
 def _shortest_decimals(values: Sequence[Number]) -> List[str]:
-    """Of doubles; both zeros are 0."""
+    """The shortest decimal of each double, which are exactly Python floats, without a final .0.
+
+    Both zeros are 0.
+
+    Raises:
+        NotDecimal: One of them is infinite, or not a number.
+    """
     texts = [repr(v) if v else "0" for v in require_finite(values)]
     return [text[:-2] if text[-2:] == ".0" else text for text in texts]
 
 
 def require_finite(values: Sequence[Number]) -> Sequence[Number]:
-    """The values themselves.
+    """The values themselves, once none of them is an infinite or undefined double.
 
     Raises:
         NotDecimal: One of them is infinite, or not a number.
@@ -185,7 +226,7 @@ def require_finite(values: Sequence[Number]) -> Sequence[Number]:
 
 
 def nearest_double(value: Union[Fraction, int]) -> Optional[float]:
-    """None beyond the range of doubles."""
+    """The double nearest to an exact value; None where that is beyond the range of doubles."""
     try:
         return float(value)
     except OverflowError:

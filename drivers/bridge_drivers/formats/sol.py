@@ -1,4 +1,4 @@
-"""Texts of .sol files, and tables of values by name.
+"""Texts of .sol files, and tables of values by name, for drivers to write and print.
 
 The proved program writes the .sol files that have values. Two are made here: one without values,
 after a refusal, and one under another message, whose last lines are known only when the file has
@@ -19,7 +19,10 @@ NamedTexts = List[Tuple[str, str]]  # names with their values
 
 
 class SolValues(NamedTuple):
-    """The numbers of a .sol, as they are written there."""
+    """The numbers of a .sol, as they are written there: duals by constraint, values by variable.
+
+    Where the file has no duals, or no values, the list is empty.
+    """
 
     duals: List[str]
     values: List[str]
@@ -30,10 +33,12 @@ def failure_sol(nl: str, code: int, objective: int, message: Sequence[str]) -> b
 
     Args:
         nl: The path of the .nl file that it is for.
+        code: AMPL's code of the outcome (`system.codes.Code`).
         objective: The number of the objective, from 0.
-        message: Its lines.
+        message: Its lines; their controls are escaped.
 
     Raises:
+        OSError: The .nl file cannot be read.
         ValueError, IndexError: It is no .nl file.
     """
     head = read_header(nl)
@@ -44,12 +49,16 @@ def failure_sol(nl: str, code: int, objective: int, message: Sequence[str]) -> b
 
 
 def with_message(sol: bytes, message: Sequence[str]) -> bytes:
-    """The same .sol under another message."""
+    """The same .sol under another message, given by lines, whose controls are escaped.
+
+    Raises:
+        ValueError: It is no .sol: its section Options is missing.
+    """
     return _encoded(list(map(one_line, message))) + sol[sol.index(OPTIONS_HEADING) :]
 
 
 def read_sol(sol: bytes) -> SolValues:
-    """The numbers of a .sol that the proved program wrote, in the order of rows and columns.
+    """The numbers of a .sol that the proved program wrote, in the order of the file.
 
     Raises:
         ValueError, IndexError: It is no .sol.
@@ -63,12 +72,16 @@ def read_sol(sol: bytes) -> SolValues:
 
 
 def value_lines(pairs: Iterable[Tuple[str, str]]) -> Iterator[str]:
-    """A name and a value a line."""
+    """Lines `NAME VALUE`, without their ends."""
     return (f"{name} {text}" for name, text in pairs)
 
 
 def short_table(pairs: NamedTexts) -> Iterator[str]:
-    """All lines where they are few, else the first that are not 0 and how many there are more."""
+    """Lines `NAME VALUE` to be printed: all where they are at most MOST_SHORT.
+
+    Of more pairs the first MOST_SHORT whose text is not `0`, and a line that says how many are not
+    shown.
+    """
     shown = pairs
     if len(pairs) > MOST_SHORT:
         shown = [(name, text) for name, text in pairs if text != "0"][:MOST_SHORT]
@@ -79,7 +92,14 @@ def short_table(pairs: NamedTexts) -> Iterator[str]:
 
 
 def solution_file(path: str, values: NamedTexts, duals: NamedTexts) -> bytes:
-    """Values by name, and duals under a heading; of a path that ends with .json one object."""
+    """What the option `solution=FILE` writes: values by name, and duals under a heading.
+
+    Args:
+        path: Of the file; where it ends with .json, the text is one object with `values` and
+            `duals`.
+        values: Of columns, by the names that the user knows.
+        duals: Of rows; empty where there are none.
+    """
     if path.endswith(".json"):
         return _encoded([json.dumps({"values": dict(values), "duals": dict(duals)}, indent=1)])
     lines = list(value_lines(values))
@@ -89,4 +109,7 @@ def solution_file(path: str, values: NamedTexts, duals: NamedTexts) -> bytes:
 
 
 def _encoded(lines: Sequence[str]) -> bytes:
+    """Lines with their ends in UTF-8; bytes of names that are not UTF-8 are given back as they
+    were.
+    """
     return ("\n".join(lines) + "\n").encode("utf-8", "surrogateescape")

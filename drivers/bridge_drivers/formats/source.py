@@ -47,6 +47,7 @@ class Limits(NamedTuple):
     free_bytes: int = 1 << 28
 
     def most_unpacked(self, packed: int) -> int:
+        """The most bytes that may come out of a packed file of which `packed` bytes were read."""
         return min(self.most_bytes, max(self.free_bytes, self.most_ratio * packed))
 
 
@@ -75,13 +76,21 @@ class Source:
     digest: str = ""
 
     def is_unchanged(self) -> bool:
-        """Whether the file at `path` is still the one that was opened."""
+        """Whether the file at `path` is still the one that was opened; no, where none was.
+
+        Decides by device, inode, size and time of the last change, and does not read it.
+        """
         with contextlib.suppress(OSError):
             return self.identity is not None and identity_of(os.stat(self.path)) == self.identity
         return False
 
     def sha256(self) -> Optional[str]:
-        """Of the bytes that were read; None where another file stands there by now."""
+        """The SHA-256 of the bytes at `path`, in hexadecimal, for a report; None where it is lost.
+
+        The sum of a copy was taken as it was made. A file that stands in its place is read again
+        for it; it is None where that fails, or the file was another one before or behind that
+        reading.
+        """
         if self.digest:
             return self.digest
         if not self.is_unchanged():  # what stands there now may be a pipe
@@ -97,7 +106,14 @@ class Source:
 
 
 class Workspace:
-    """A private folder of one call, made when it is first needed and removed at its end."""
+    """A private folder of one call, made for the first path that is asked for.
+
+    It is a context manager, which removes the folder at its end.
+
+    Attributes:
+        folder: Its path; "" as long as nobody asked for a path.
+        count: How many paths were given.
+    """
 
     def __init__(self) -> None:
         self.folder = ""
@@ -107,52 +123,84 @@ class Workspace:
         return self
 
     def __exit__(self, *fault: object) -> None:
+        """Removes the folder with all in it; what cannot be removed stays without a word."""
         if self.folder:
             shutil.rmtree(self.folder, ignore_errors=True)
 
     def new_path(self) -> str:
-        """The path of a file that is not there yet."""
+        """The path of a file in the folder that is not there yet; the caller makes it."""
         self.folder = self.folder or private_folder("nl-bridge-")
         self.count += 1
         return os.path.join(self.folder, f"given{self.count}")
 
     def link_to(self, path: str) -> str:
-        """A path of UTF-8, which the proved program needs, to one that is not."""
+        """Makes a link to a path, and returns the link's own path, which is a text of UTF-8.
+
+        The proved program takes no other paths, so a command calls this for a file with such a
+        name.
+        """
         link = self.new_path()
         os.symlink(os.path.abspath(path), link)
         return link
 
 
 def identity_of(found: os.stat_result) -> Identity:
+    """What tells a file from another one, or from itself before it was written to."""
     return found.st_dev, found.st_ino, found.st_size, found.st_mtime_ns
 
 
 def is_stream(word: str) -> bool:
-    """Whether it can be read once alone: standard input, a pipe, a FIFO, a device."""
+    """Whether a path can be read once alone: standard input, a pipe, a FIFO, a device.
+
+    The names of standard input are known by their form; another path is looked at, and is no stream
+    where nothing is there.
+    """
     if STANDARD_INPUT.fullmatch(word):
         return True
     return os.path.exists(word) and not (os.path.isfile(word) or os.path.isdir(word))
 
 
 def name_of_model(word: str) -> str:
-    """The file that a word names: WORD.nl where that is there and it has no end of its own."""
+    """The path that the word of a call means: WORD.nl where that is a file and the word has no end.
+
+    Args:
+        word: A path with the end of a model, or the stub of one, as in AMPL; `-` for standard
+            input.
+
+    Returns:
+        `word` itself in all other cases, whether a file is there or not.
+    """
     is_stub = not file_kinds.end_of(word) and not is_stream(word) and os.path.isfile(word + ".nl")
     return word + ".nl" if is_stub else word
 
 
 def stub_of(name: str) -> str:
+    """The path of files beside the model of this name, without an end; `stdin` for standard
+    input.
+    """
     return STANDARD_NAME if STANDARD_INPUT.fullmatch(name) else file_kinds.stub_of(name)
 
 
 def missing_source(word: str) -> Source:
-    """What a model would be called that is not there."""
+    """A source for a model that could not be opened, so that its refusal can name files beside it.
+
+    Its path ends with .nl and need not be there. Nothing is read: it has no start and no sum.
+    """
     path = word.removesuffix(".nl") + ".nl"
     is_mps = file_kinds.end_of(word) == ".mps"
     return Source(word, path, file_kinds.stub_of(word), is_mps=is_mps)
 
 
 def read_source(name: str, workspace: Workspace, limits: Limits = Limits()) -> Source:
-    """One file, as it is or unpacked. It is opened once.
+    """Opens a file once, and copies what can be read once alone, or is packed, into the workspace.
+
+    Args:
+        name: A path, or `-` for standard input.
+        workspace: Where a copy is made; it has to outlive the answer.
+        limits: Of what is copied. A plain file that is not packed stays in its place at any size.
+
+    Returns:
+        The source with its start and kind; a note says where it was unpacked.
 
     Raises:
         OSError: It cannot be read.
@@ -184,7 +232,15 @@ def read_source(name: str, workspace: Workspace, limits: Limits = Limits()) -> S
 
 
 def read_model(word: str, workspace: Workspace, limits: Limits = Limits()) -> Source:
-    """The model that a word names; what other programs write in MPS is repaired in a copy.
+    """The model that a word of a call names; an MPS file is repaired in a copy where need be.
+
+    Args:
+        word: A path, a stub, or `-`; see `name_of_model`.
+        workspace: Where copies are made; it has to outlive the answer.
+        limits: Of what is copied. An MPS file is read whole for its repair, at any size.
+
+    Returns:
+        The source; its notes tell of unpacking and of repairs (`repair_mps`).
 
     Raises:
         NoModel: There is no such file.
@@ -205,7 +261,13 @@ def read_model(word: str, workspace: Workspace, limits: Limits = Limits()) -> So
 
 
 class _Rejoined(io.RawIOBase):
-    """A stream of whose front some bytes were read. `count` is how many it has given."""
+    """A stream of whose front some bytes were read already, and are given first.
+
+    Attributes:
+        front: Those of them that are still to be given.
+        rest: The stream behind them.
+        count: How many bytes it has given, for the limit on what they unpack to.
+    """
 
     def __init__(self, front: bytes, rest: BinaryIO) -> None:
         self.front = front
@@ -216,6 +278,7 @@ class _Rejoined(io.RawIOBase):
         return True
 
     def readinto(self, buffer: bytearray) -> int:  # type: ignore[override]
+        """Fills a buffer, not always to its end; its count of bytes, 0 at the stream's end."""
         piece = self.front[: len(buffer)] or self.rest.read(len(buffer))
         self.front = self.front[len(buffer) :]
         buffer[: len(piece)] = piece
@@ -225,6 +288,7 @@ class _Rejoined(io.RawIOBase):
 
 @contextlib.contextmanager
 def _opened(name: str) -> Iterator[BinaryIO]:
+    """A stream of the bytes at a path, closed at the end; standard input, named `-`, stays open."""
     if name == "-":
         with open(sys.stdin.fileno(), "rb", closefd=False) as stream:
             yield stream
@@ -240,7 +304,20 @@ def _copied(
     packed: Optional[_Rejoined],
     limits: Limits,
 ) -> Source:
-    """A private file with a text, whose sum is taken as it is written."""
+    """Copies a stream into a new file of the workspace, and takes its SHA-256 as it is written.
+
+    Args:
+        source: What the answer is made of: its name, stub and notes stay.
+        text: What is copied, to its end.
+        packed: The packed stream from which `text` comes, whose count of bytes limits its size;
+            `text` itself, or None, where nothing is unpacked.
+
+    Returns:
+        The source at its new path, with start, identity and digest of the copy.
+
+    Raises:
+        TooLarge: The text goes on past a limit. What was written stays in the workspace.
+    """
     path = workspace.new_path()
     digest = hashlib.sha256()
     size = 0
@@ -260,5 +337,6 @@ def _copied(
 
 
 def _with_kind(source: Source) -> Source:
+    """The source with `is_mps` set: its name ends with .mps, packed or not, or it begins as MPS."""
     has_end = file_kinds.end_of(source.name) == ".mps"
     return replace(source, is_mps=has_end or file_kinds.is_mps_start(source.start))
