@@ -1,4 +1,9 @@
-"""Options by the names that commands have, with values of Python: what each may be, and the settings that they make."""
+"""Options by the names that commands have, with values of Python: what each may be, and the
+settings that they make.
+
+The calls of the package make their settings here of keyword arguments, or of words `name=value`.
+The drivers read their words by `commands.options`, and use `run_settings` alone.
+"""
 
 from __future__ import annotations
 
@@ -22,9 +27,11 @@ class Kind(NamedTuple):
     """What the value of an option may be.
 
     Attributes:
-        title: The same in words.
-        take: Makes a value of what is given; ValueError or TypeError where it is of another kind.
-        read: Makes it of a text.
+        title: The same in words, in front of `is wanted`.
+        take: Makes the value that settings have of a value of Python; ValueError or TypeError where
+            it is of another kind.
+        read: Makes such a value of Python of the text behind `name=`; ValueError where it cannot.
+            What it makes goes to `take`.
     """
 
     title: str
@@ -33,10 +40,10 @@ class Kind(NamedTuple):
 
 
 class RunSettings(NamedTuple):
-    """What options make.
+    """What the options of one run make.
 
     Attributes:
-        settings: How the model is solved.
+        settings: How the model is solved and judged.
         outputs: Which files are written.
         wants_values: The values are wanted in the report.
         wants_duals: Duals and reduced costs are wanted in the report.
@@ -51,12 +58,17 @@ class RunSettings(NamedTuple):
 
 
 def _switch(value: Any) -> bool:
+    """The truth value of True, False, 0 or 1; ValueError of anything else, of 0.0 and 1.0 too."""
     if value not in (0, 1) or isinstance(value, float):
         raise ValueError(value)
     return bool(value)
 
 
 def _whole(low: int, high: float = math.inf) -> Callable[[Any], int]:
+    """Takes whole numbers from `low` to `high`, both among them, also a float that is whole, but no
+    truth value.
+    """
+
     def take(value: Any) -> int:
         if isinstance(value, bool) or value != int(value) or not low <= value <= high:
             raise ValueError(value)
@@ -66,6 +78,10 @@ def _whole(low: int, high: float = math.inf) -> Callable[[Any], int]:
 
 
 def _amount(high: float = math.inf) -> Callable[[Any], float]:
+    """Takes finite numbers from 0 to `high`, both among them, as a float; no text and no truth
+    value.
+    """
+
     def take(value: Any) -> float:
         number = float(value)
         if isinstance(value, (str, bool)) or not (0 <= number < math.inf and number <= high):
@@ -76,16 +92,20 @@ def _amount(high: float = math.inf) -> Callable[[Any], float]:
 
 
 def _path(value: Any) -> str:
+    """A path (str, bytes or os.PathLike) as a str; TypeError of anything else."""
     return os.fsdecode(os.fspath(value))
 
 
 def _text(value: Any) -> str:
+    """A str as it is; TypeError of anything else."""
     if not isinstance(value, str):
         raise TypeError(value)
     return value
 
 
 def _choice(*known: str) -> Callable[[Any], str]:
+    """Takes exactly the texts that are given."""
+
     def take(value: Any) -> str:
         if value not in known:
             raise ValueError(value)
@@ -95,13 +115,14 @@ def _choice(*known: str) -> Callable[[Any], str]:
 
 
 def _words(value: Any) -> List[str]:
-    """One text is split as a shell does."""
+    """A list of words: those of a sequence of texts, or those that a shell splits one text into."""
     if isinstance(value, str):
         return shlex.split(value)
     return [_text(word) for word in value]
 
 
 def _kind(title: str, take: Callable[[Any], object], read: Callable[[str], object] = str) -> Kind:
+    """A kind whose `read`, unless it is given, leaves the text as it is."""
     return Kind(title, take, read)
 
 
@@ -148,14 +169,24 @@ KINDS_OF_SOLVERS: Mapping[SolverOption, Kind] = {
 
 
 def kinds_of(solver: str) -> Dict[str, Kind]:
-    """What each option of a driver may be, by its name."""
+    """What each option of a solver's driver may be, by its name.
+
+    Args:
+        solver: The name of the solver, a key of `SOLVERS`. Options that it does not take are left
+            out.
+    """
     taken = SOLVERS[solver].options
     own = {name: KINDS_OF_SOLVERS[option] for name, option in OF_SOLVERS.items() if option in taken}
     return {**COMMON, **own}
 
 
 def checked_values(solver: str, given: Mapping[str, object]) -> Dict[str, Any]:
-    """The values of options by name; None counts as not given.
+    """The values of options by name, as settings have them; None counts as not given, and is left
+    out.
+
+    Args:
+        solver: The name of the solver.
+        given: Values of Python by the names of options.
 
     Raises:
         WrongOption: An option is unknown, or its value is of another kind.
@@ -175,10 +206,14 @@ def checked_values(solver: str, given: Mapping[str, object]) -> Dict[str, Any]:
 
 
 def values_of_words(solver: str, words: Sequence[str]) -> Dict[str, object]:
-    """Options that are given as words `name=value`.
+    """Values of Python by name, of options that are given as words `name=value`; the last of a name
+    counts.
+
+    What they may be is not checked beyond that: `checked_values` follows.
 
     Raises:
-        WrongOption: As `checked_values`, or a word is none of these.
+        WrongOption: A word has no `=` or an unknown name, or its text cannot be read as a number
+            is.
     """
     kinds = kinds_of(solver)
     values: Dict[str, object] = {}
@@ -197,8 +232,12 @@ def values_of_words(solver: str, words: Sequence[str]) -> Dict[str, object]:
 def run_settings(solver: str, values: Mapping[str, Any]) -> RunSettings:
     """The settings that checked values make; what is not given is as the commands have it.
 
+    Args:
+        solver: The name of the solver.
+        values: What `checked_values` made, by the names of options; `objno` counts from 1.
+
     Raises:
-        WrongOption: Two values do not go together.
+        WrongOption: check=0 stands beside prove=1 or strict=1.
     """
     get = values.get
     strict = bool(get("strict"))
@@ -242,6 +281,9 @@ def run_settings(solver: str, values: Mapping[str, Any]) -> RunSettings:
 
 
 def _solver_settings(values: Mapping[str, Any]) -> SolverSettings:
+    """What the solver itself is asked, by the checked values of options; its limit of time is not
+    among it.
+    """
     get = values.get
     return SolverSettings(
         relax=bool(get("relax")),

@@ -1,5 +1,9 @@
-"""The one place where a code is decided: what was found of a model and of an answer to it, and the code
-that this earns. drivers/CODES.md is the same in words, and a test goes through every pair of them."""
+"""The one place where a code is decided: what was found of a model and of an answer to it, and the
+code that this earns.
+
+drivers/CODES.md is the same in words, and a test goes through every pair of them. `resolution`
+makes the `Findings` and carries the `Ruling` out; `code_of_error` is for runs without an outcome.
+"""
 
 from __future__ import annotations
 
@@ -17,7 +21,7 @@ POINT_CODES = (Code.SOLVED, Code.UNSURE, Code.LIMIT_WITH_POINT)  # of an answer 
 
 
 class Violation(enum.Enum):
-    """What the answer's own values miss of the model."""
+    """How much the answer's own values miss of the model, by `resolution.violation_of`."""
 
     NOTHING = "nothing"  # or the rounding of a row's own terms
     LITTLE = "little"
@@ -25,7 +29,7 @@ class Violation(enum.Enum):
 
 
 class PointSource(enum.Enum):
-    """Whose point is passed on."""
+    """Whose point is passed on with a code."""
 
     NONE = "none"
     ANSWER = "answer"
@@ -36,22 +40,23 @@ class Findings(NamedTuple):
     """What is known of a model and of an answer to it.
 
     Attributes:
-        said: What the solver's status says by itself.
+        said: The code that the solver's status has by itself.
         claim: The first word of what is proved of the model; "" where nothing is.
         is_continuous: There are no integer variables, or they are relaxed.
         is_gap: The solver stopped at a gap that was asked for.
-        kind: What the proved point is beside the answer: `a`, `a better` or `another`; "" where it is the
-            same up to the digits that are printed.
+        kind: What the proved point is beside the answer: `a` (which has none), `a better` or
+            `another`; "" where it is the same up to the digits that are printed, or none is proved.
         has_other_objective: It is the same so, and has another objective all the same.
-        is_bound_met: The proved bound is at the objective of the proved point, or of the answer where none
-            is proved, up to 1e-6.
+        is_bound_met: The proved bound is at the objective of the proved point, or of the answer
+            where none is proved, up to 1e-6.
         is_within_gap: It is as near to it as the gap that was asked for.
         violation: What the answer's own values miss.
         beats_bound: The answer is better than the bound that is proved.
         is_contradicted: No point has the answer's values of integer variables.
         is_met_in_doubles: The answer's duals in doubles, rounded to the safe side, say as much as
             `is_bound_met`.
-        is_ray_open: The time ended before it was known whether there is a ray.
+        is_ray_open: No bound is known, and the time ended before it was known whether there is a
+            ray.
         is_checked: The proved program was asked.
         is_strict: What is not proved is not solved.
     """
@@ -79,7 +84,8 @@ class Ruling(NamedTuple):
     Attributes:
         code: What is earned.
         source: Whose point is passed on.
-        shortfall: What code 0 is not earned for; "" of other codes, and where the solver did not claim it.
+        shortfall: What code 0 is not earned for, in words for the message; "" where the solver did
+            not claim it, and where its claim stands.
     """
 
     code: Code
@@ -103,12 +109,17 @@ CODES_OF_ERRORS: Sequence[tuple[type[errors.BridgeError], Code]] = (
 
 
 def code_of_error(error: errors.BridgeError) -> Code:
-    """AMPL's code of a run that ended by this error."""
+    """AMPL's code of a run that ended by this error: that of the first class in CODES_OF_ERRORS
+    that it is of.
+    """
     return next(code for kind, code in CODES_OF_ERRORS if isinstance(error, kind))
 
 
 def decide(findings: Findings) -> Ruling:
-    """By what is proved, whatever the solver said; else by its answer."""
+    """The code that was earned: by what is proved, whatever the solver said; else by its answer.
+
+    With `strict`, whatever is not proved optimal, infeasible or unbounded has code 100.
+    """
     ruling = _by_claim(findings)
     if findings.is_strict and findings.claim not in FINAL:
         return Ruling(Code.UNSURE, ruling.source, NOT_STRICT)
@@ -116,6 +127,10 @@ def decide(findings: Findings) -> Ruling:
 
 
 def _by_claim(found: Findings) -> Ruling:
+    """The ruling without `strict`.
+
+    A final claim decides alone; an `unbounded` that a proved bound contradicts is a limit.
+    """
     if found.claim == "infeasible":
         return Ruling(Code.INFEASIBLE)
     if found.claim == "unbounded":
@@ -132,7 +147,12 @@ def _by_claim(found: Findings) -> Ruling:
 
 
 def _of_proved_point(found: Findings) -> Ruling:
-    """A point is proved, and not that it is optimal."""
+    """The ruling where a point is proved, and not that it is optimal.
+
+    It is solved where the bound is met (of a continuous program up to 1e-6, else up to the gap that
+    was asked for), or where the solver's `optimal` is of the same point and nothing speaks against
+    it.
+    """
     proved = PointSource.PROVED
     if (found.is_continuous and found.is_bound_met) or (found.is_gap and found.is_within_gap):
         return Ruling(Code.SOLVED, proved)
@@ -145,7 +165,12 @@ def _of_proved_point(found: Findings) -> Ruling:
 
 
 def _shortfall_of_own_point(found: Findings) -> str:
-    """Why a solver's `optimal` earns no code 0 whose own point is proved feasible; "" where it does."""
+    """Why a solver's `optimal` earns no code 0 whose own point is proved feasible; "" where it
+    does.
+
+    Without a bound that is met, it does in an integer program, unless it is open whether it is
+    unbounded.
+    """
     if found.has_other_objective:
         return "its digits are not those of an exact point"
     if found.is_met_in_doubles:
@@ -157,7 +182,9 @@ def _shortfall_of_own_point(found: Findings) -> str:
 
 
 def _of_answer(found: Findings) -> Ruling:
-    """No point is proved; the answer has one."""
+    """The ruling where no point is proved, and the answer has one: what its values miss, then a
+    bound that they beat, then what its `optimal` lacks.
+    """
     answer = PointSource.ANSWER
     if found.violation is Violation.MUCH:
         if found.said == Code.LIMIT_WITH_POINT:
@@ -172,7 +199,9 @@ def _of_answer(found: Findings) -> Ruling:
 
 
 def _shortfall_of_answer(found: Findings) -> str:
-    """Why a solver's `optimal` earns no code 0 of which no point is proved; "" where it does."""
+    """Why a solver's `optimal` earns no code 0 of which no point is proved; "" where it does: of a
+    continuous program only, with a bound that is met.
+    """
     if found.is_contradicted or not found.is_continuous:
         return "no exact point has its whole values"
     if found.violation is Violation.LITTLE:

@@ -1,4 +1,8 @@
-"""The numbers of an outcome by the names of the file, and the files that are made of an outcome."""
+"""The numbers of an outcome by the names of the file, and the files that are made of an outcome:
+MODEL.sol and a table of the solution.
+
+The drivers, MiniZinc's command and the calls of the package use it, after `solve`.
+"""
 
 from __future__ import annotations
 
@@ -19,17 +23,24 @@ NamedTexts = List[Tuple[str, str]]  # a name and a decimal each, in the order of
 
 
 def named_values(answer: Answer | None) -> NamedTexts:
-    """The values of the file's variables."""
+    """The values of the file's variables, as decimals; empty without a point."""
     return _by_column(answer, answer.values if answer else None)
 
 
 def named_reduced_costs(answer: Answer | None) -> NamedTexts:
-    """The reduced costs of the file's variables."""
+    """The reduced costs of the file's variables, as decimals in the objective's own sense; empty
+    where there are none.
+    """
     return _by_column(answer, answer.reduced_cost_texts if answer else None)
 
 
 def named_duals(answer: Answer | None) -> NamedTexts:
-    """The duals of the file's constraints."""
+    """The duals of the file's constraints that were exported, as decimals in the objective's own
+    sense; empty where there are none.
+
+    The row of a nonlinear objective's value is left out. Where the user knows no name, it is that
+    of the exported text, such as c3.
+    """
     if answer is None or answer.duals is None:
         return []
     name_of = answer.program.own_names.row
@@ -42,7 +53,13 @@ def named_duals(answer: Answer | None) -> NamedTexts:
 
 
 def _by_column(answer: Answer | None, texts: Sequence[str] | None) -> NamedTexts:
-    """Not of the column that stands for the value of a nonlinear objective."""
+    """Texts by the names of the file's variables, without the column of a nonlinear objective's
+    value.
+
+    Args:
+        answer: Whose program has the columns.
+        texts: One for each column of the program; None for none.
+    """
     if answer is None or texts is None:
         return []
     name_of = answer.program.own_names.column
@@ -59,7 +76,8 @@ def write_outputs(
 ) -> None:
     """Writes the files that are asked for; each is written whole or not at all.
 
-    A line on the solution's file goes into the message before the .sol, which has the message, is made.
+    A line on the solution's file goes into the message before the .sol, which has the message, is
+    made. Where the files in between are kept, the .sol is written there, too.
 
     Args:
         outcome: What is written.
@@ -82,27 +100,49 @@ def write_outputs(
 
 
 def sol_data(outcome: Outcome, source: Source, objective: int) -> bytes:
-    """The .sol with the whole message."""
+    """The bytes of a .sol with the whole message: that of `bridge return`, else one with the code
+    alone.
+
+    Args:
+        outcome: What is told.
+        source: An .nl file.
+        objective: The number of the objective, from 0.
+    """
     if outcome.sol is not None:
         return with_message(outcome.sol, outcome.lines)
     return failure_sol(source.path, outcome.code, objective, outcome.lines)
 
 
 def write_sol(source: Source, data: bytes) -> None:
-    """Puts a .sol beside its model; an older one is replaced."""
+    """Puts a .sol beside its model; an older one is replaced. A signal waits until it stands there.
+
+    Raises:
+        FileFault: It cannot be written.
+    """
     with SIGNALS.deferred():
         files = OutputFiles([source.path], model_kind_of_start, overwrite=True)
         files.write(source.stub + ".sol", data)
 
 
 def remove_older_sol(source: Source) -> None:
-    """An older .sol must not pass for that of a run; where the model cannot be read it stays."""
+    """Removes a .sol beside the model, which must not pass for that of a run that begins; where the
+    model cannot be read it stays.
+    """
     if os.path.isfile(source.path) and os.access(source.path, os.R_OK):
         OutputFiles([source.path], model_kind_of_start).remove(source.stub + ".sol")
 
 
 def write_solution(outcome: Outcome, source: Source, outputs: OutputSettings) -> str:
-    """Names and values, and duals where there are any; a line on that."""
+    """Writes names and values, and duals where there are any, to the file that `outputs` names.
+
+    Without values nothing is written.
+
+    Returns:
+        A line for the message on that.
+
+    Raises:
+        FileFault: It cannot be written, or what stands there is not replaced.
+    """
     path, values = outputs.solution, named_values(outcome.answer)
     if not values:
         return f"{path} is not written: there are no values"
@@ -113,7 +153,9 @@ def write_solution(outcome: Outcome, source: Source, outputs: OutputSettings) ->
 
 
 def exit_status(outcome: Outcome) -> ExitStatus:
-    """How a command ends that had this outcome."""
+    """The exit status of a command that had this outcome: UNWRITTEN where its certificate was not
+    kept, NOT_SETTLED where `strict` is not met.
+    """
     if outcome.stored is not None and outcome.stored.has_failed:
         return ExitStatus.UNWRITTEN
     return ExitStatus.DONE if outcome.is_final else ExitStatus.NOT_SETTLED

@@ -1,4 +1,9 @@
-"""A model with the proved program's calls that are about it: an .nl file, or an MPS file of either form."""
+"""A model with the proved program's calls that are about it: an .nl file, or an MPS file of either
+form.
+
+It is for all that does not solve: the commands of `nl-bridge` and the calls of the package that
+convert, verify, explain and count.
+"""
 
 from __future__ import annotations
 
@@ -18,9 +23,9 @@ class ReadModel(NamedTuple):
     """A model that was read.
 
     Attributes:
-        bridge: The proved program, whose `verify` is that of the model.
+        bridge: The proved program, whose `verify` takes `path`.
         source: The file.
-        path: The text that the proved program reads.
+        path: The text that the proved program reads: an .nl file as text, an MPS file as it stands.
         own: The program of an MPS file; None of an .nl file, which the proved program exports.
         notes: Lines on how it was read.
     """
@@ -32,20 +37,25 @@ class ReadModel(NamedTuple):
     notes: Sequence[str] = ()
 
     def constraints(self) -> int:
-        """How many constraints the file has."""
+        """How many constraints the file has, also those that are not exported; objectives aside."""
         if self.own is not None:
             return len(self.own.names.rows)
         return read_header(self.path).constraints
 
     def names(self) -> NameLists:
-        """The names that the user knows: those of an MPS file, or in lists beside an .nl file."""
+        """The names that the user knows, by the file's numbers: those of an MPS file, or in lists
+        beside an .nl file.
+        """
         if self.own is not None:
             return self.own.own_names
         head = read_header(self.path)
         return NameLists(self.source.stub, head.variables, head.constraints)
 
     def program(self, objective: int = 0) -> LinearProgram:
-        """The program with one of the file's objectives, from 0.
+        """The program with one of the file's objectives. An .nl file is exported anew by each call.
+
+        Args:
+            objective: Its number, from 0; an MPS file has one alone.
 
         Raises:
             Refusal: The proved program refuses the model, or it has no such objective.
@@ -62,6 +72,11 @@ class ReadModel(NamedTuple):
 
 def read_program(bridge: Bridge, workspace: Workspace, source: Source) -> ReadModel:
     """A model whose file was opened, ready for calls of the proved program.
+
+    Args:
+        bridge: Is told what the user calls the file.
+        workspace: Where a text of a binary .nl file, and trials, are written.
+        source: The file.
 
     Raises:
         Refusal: An MPS file is none, or no linear program.

@@ -1,4 +1,9 @@
-"""What is known of one call of the package: what its functions answer, and what commands print with json=1."""
+"""What is known of one call of the package: what its functions answer, and what commands print with
+json=1.
+
+A `ReportedCall` goes along with a call and makes its `Report` at the end, or that of the error by
+which it ends.
+"""
 
 from __future__ import annotations
 
@@ -25,7 +30,7 @@ class ExactNumbers(Mapping[str, Fraction]):
     """Numbers by name, in the order of the file. Each is made of its decimal when it is asked for.
 
     Attributes:
-        texts: The decimals, as they are in a .sol.
+        texts: The decimals by name, as they are in a .sol.
     """
 
     def __init__(self, texts: Sequence[Tuple[str, str]]) -> None:
@@ -58,18 +63,19 @@ class Report:
         status: The exit status of that command.
         code: AMPL's code; None of `nl-bridge`, and after a signal.
         claim: What is proved of the model, in a word; None where nothing is.
-        objective: The objective that the claim speaks of, from 0.
-        value: The objective at the certified point.
-        bound: What no feasible point is better than; that of an optimum is its value.
+        objective: The objective that the claim speaks of, from 0; None where nothing is proved.
+        value: The objective at the certified point, in its own sense; None where no point is.
+        bound: What no feasible point is better than, in that sense; that of an optimum is its
+            value. None where none is proved.
         text: The verdict word for word, or why there is none.
-        lines: All lines of the message.
-        seconds: Of the whole call.
+        lines: All lines of the message, without ends.
+        seconds: Of the whole call, by the wall.
         model: What the user calls the model.
         certificate: The path of the certificate that was written, or that was judged.
         sums: The SHA-256 of the program, the model and the certificate; None where there is none.
-        values: Of the variables by name.
-        duals: Of the constraints by name.
-        costs: The reduced costs of the variables by name.
+        values: Of the variables by name; None where they are not wanted.
+        duals: Of the constraints by name; None where they are not wanted.
+        costs: The reduced costs of the variables by name; None where they are not wanted.
         stats: Sizes and kinds of the model, as report.schema.json says.
         explained: What a certificate says.
         refusal: Why the model is refused.
@@ -101,7 +107,9 @@ class Report:
     program: Sequence[str] = ()
 
     def object(self) -> JsonObject:
-        """The report as report.schema.json says."""
+        """The report as report.schema.json says: keys of OPTIONAL that have nothing are missing,
+        numbers are as `number_object` makes them, and those of `more` stand beside the others.
+        """
         left_out = {*HIDDEN, *(key for key in OPTIONAL if getattr(self, key) is None)}
         found = {key: value for key, value in vars(self).items() if key not in left_out}
         for key in ("values", "duals", "costs"):
@@ -118,7 +126,7 @@ class Report:
         }
 
     def json(self) -> str:
-        """The same as a text of ASCII."""
+        """The same as a text of ASCII, over several lines and without an end of the last."""
         return json.dumps(self.object(), ensure_ascii=True, indent=1)
 
 
@@ -130,12 +138,14 @@ def number_object(value: Fraction | None) -> JsonObject | None:
 class ReportedCall:
     """One call, while it goes on: what it has read, of which the report tells.
 
+    Its seconds count from when it is made.
+
     Attributes:
         command: The command that the call is of.
         program: The words that start the proved program, once it was found.
         model: What the user calls the model.
         certificate: The path of a certificate.
-        sources: What was read, by its name in the report's sums.
+        sources: What was read, by its name in the report's sums: `model` or `certificate`.
     """
 
     def __init__(self, command: str) -> None:
@@ -147,24 +157,24 @@ class ReportedCall:
         self._began = time.monotonic()
 
     def read_model(self, source: Source) -> None:
-        """The model was read."""
+        """Tells that the model was read: its name and its sum stand in the report."""
         self.model = source.name
         self.sources["model"] = source
 
     def read_certificate(self, source: Source) -> None:
-        """A certificate was read."""
+        """Tells that a certificate was read: its name and its sum stand in the report."""
         self.certificate = source.name
         self.sources["certificate"] = source
 
     def report(
         self, text: str, lines: Sequence[str], said: Statement | None = None, **fields: Any
     ) -> Report:
-        """The report at the end of the call.
+        """The report at the end of the call; the sums are taken now.
 
         Args:
             text: The verdict, or why there is none.
             lines: The message.
-            said: What is proved.
+            said: What is proved; None where nothing is.
             fields: Other fields of `Report`.
         """
         if said is not None:
@@ -184,12 +194,13 @@ class ReportedCall:
         )
 
     def failed(self, error: BridgeError, *, prefix: str = "", **fields: Any) -> BridgeError:
-        """The error as the call raises it: with a report that says it.
+        """The error, for the call to raise it, with a report that says it in one line.
 
         Args:
-            error: Why there is no answer.
+            error: Why there is no answer; its `report` is set.
             prefix: Stands before the error in the report.
-            fields: Other fields of `Report`, such as `code`.
+            fields: Other fields of `Report`, such as `code`; the status is the error's unless it is
+                among them.
         """
         text = prefix + error.text
         fields.setdefault("status", error.status)
@@ -197,7 +208,12 @@ class ReportedCall:
         return error
 
     def _sums(self) -> Dict[str, str | None]:
-        """A source is not opened again: it may be a pipe, and its sum is that of the bytes that were read."""
+        """The SHA-256 of what the call read and wrote, by the names in SUMMED; None where there is
+        none.
+
+        A source is not opened again: it may be a pipe, and its sum is that of the bytes that were
+        read. Of a proved program that is started by several words there is none.
+        """
         paths = {
             "program": self.program[0] if len(self.program) == 1 else None,
             "model": None,

@@ -1,5 +1,10 @@
-"""What is passed on: the code, the point and the objective of an answer beside what was proved of the
-model. A proved claim holds whatever the solver said, and nothing contradicts it."""
+"""What is passed on: the code, the point and the objective of an answer beside what was proved of
+the model.
+
+A proved claim holds whatever the solver said, and nothing contradicts it. `answered_run` calls
+`resolve` once the proof is there. It makes the `Findings`, has `outcome.decide` rule on them, and
+carries the ruling out.
+"""
 
 from __future__ import annotations
 
@@ -39,8 +44,8 @@ class RunFacts(NamedTuple):
     """What decides on a code beside the answer and the verdict.
 
     Attributes:
-        residual: What the answer's own values miss.
-        gap: The relative gap that was asked for.
+        residual: What the solver's own values miss most.
+        gap: The relative gap that was asked for; 0 for none.
         is_checked: The proved program was asked.
         is_strict: What is not proved is not solved.
     """
@@ -56,10 +61,11 @@ class Resolution(NamedTuple):
 
     Attributes:
         code: Its code.
-        answer: Its numbers.
-        text: The code in words; None where the solver's own words hold.
-        kind: What the point is beside the solver's: `a`, `a better`, `another`; "" where it is the same.
-        shortfall: What code 0 is not earned for.
+        answer: Its numbers, with that code.
+        text: What is told in place of the solver's own words; None where these hold.
+        kind: What the point is beside the solver's: `a`, `a better`, `another`; "" where it is the
+            same.
+        shortfall: What code 0 is not earned for, in words; "" where there is nothing to say.
     """
 
     code: Code
@@ -70,12 +76,12 @@ class Resolution(NamedTuple):
 
 
 class ProvedPoint(NamedTuple):
-    """A point that is proved.
+    """A point that is proved, beside an answer.
 
     Attributes:
-        values: By column.
-        objective: The terms of the objective at it, in doubles.
-        has_other_objective: Than the answer has.
+        values: By column of the program, that of a nonlinear objective's value too.
+        objective: The terms of the objective at it, in doubles and in its own sense.
+        has_other_objective: Than the answer has, in doubles; False where the answer has no point.
         kind: What it is beside the answer, as in `Resolution`.
     """
 
@@ -86,7 +92,13 @@ class ProvedPoint(NamedTuple):
 
 
 def resolve(answer: Answer, verdict: Evidence, facts: RunFacts = RunFacts()) -> Resolution:
-    """What is passed on, by the ruling on all that was found."""
+    """What is passed on, by the ruling on all that was found.
+
+    Args:
+        answer: The solver's own, with the code of its status.
+        verdict: What is proved of the model; its point is by the file's variable.
+        facts: What else decides.
+    """
     proved = proved_point(answer, verdict)
     ruling = decide(findings_of(answer, verdict, facts, proved))
     code, shortfall = ruling.code, ruling.shortfall
@@ -105,7 +117,14 @@ def resolve(answer: Answer, verdict: Evidence, facts: RunFacts = RunFacts()) -> 
 def findings_of(
     answer: Answer, verdict: Evidence, facts: RunFacts, proved: ProvedPoint | None
 ) -> Findings:
-    """What decides on the code."""
+    """What decides on the code.
+
+    Args:
+        answer: The solver's own.
+        verdict: What is proved.
+        facts: What else decides.
+        proved: What `proved_point` says of both; None where no point is proved.
+    """
     said = statement_of(verdict.line) if verdict.is_proved else None
     return Findings(
         said=answer.code,
@@ -127,14 +146,20 @@ def findings_of(
 
 
 def _has_other_objective(answer: Answer, proved: ProvedPoint | None) -> bool:
-    """Whether the point of an integer program is the answer's up to its digits, and has another objective."""
+    """Whether the proved point of an integer program has the answer's values up to their digits,
+    and another objective.
+    """
     if proved is None or proved.kind or not answer.program.integer_count:
         return False
     return proved.has_other_objective
 
 
 def violation_of(answer: Answer, residual: Residual) -> Violation:
-    """How much a residual is. Rows of integer columns are to be met but for far less than others."""
+    """How much a residual is.
+
+    It is MUCH beyond its tolerance; else LITTLE where its share of the row's largest term is above
+    ROUNDING_OF_A_ROW, or with integer columns that are not relaxed above TOLERANCE_OF_INTEGERS.
+    """
     if residual.is_significant():
         return Violation.MUCH
     rounding = ROUNDING_OF_A_ROW if answer.is_continuous else TOLERANCE_OF_INTEGERS
@@ -144,7 +169,13 @@ def violation_of(answer: Answer, residual: Residual) -> Violation:
 def meets_bound(answer: Answer, proved: ProvedPoint | None, said: Statement) -> bool:
     """Whether the proved bound is at the objective of the proved point, else of the answer.
 
-    They may be apart by 1e-6 of the objective, of 1, or of the sum of the sizes of its terms.
+    They may be apart by RELATIVE_GAP times the largest of |objective|, 1 and the sum of the sizes
+    of its terms. A bound that is the proved value exactly is at it.
+
+    Args:
+        answer: The solver's own.
+        proved: A point that is proved; None for none.
+        said: What is proved, in the objective's own sense.
     """
     if said.bound is None or said.bound == said.value:
         return said.bound is not None
@@ -159,14 +190,21 @@ def meets_bound(answer: Answer, proved: ProvedPoint | None, said: Statement) -> 
 
 
 def is_within(said: Statement, gap: float) -> bool:
-    """Whether the bound is as near to the point's objective as a relative gap that was asked for."""
+    """Whether the bound is as near to the point's objective as a relative gap that was asked for.
+
+    That is |bound - value| <= gap * max(|bound|, |value|), exactly; False unless both are proved.
+    """
     if said.bound is None or said.value is None:
         return False
     return abs(said.bound - said.value) <= Fraction(gap) * max(abs(said.bound), abs(said.value))
 
 
 def proved_point(answer: Answer, verdict: Evidence) -> ProvedPoint | None:
-    """The point of a verdict beside an answer; None where the verdict has none."""
+    """The point of a verdict beside an answer; None where the verdict has none.
+
+    Its objective's value stands behind the values of the file's variables where the program has a
+    column for it.
+    """
     if not verdict.is_proved or verdict.point is None:
         return None
     program = answer.program
@@ -183,7 +221,12 @@ def proved_point(answer: Answer, verdict: Evidence) -> ProvedPoint | None:
 
 
 def proved_duals(answer: Answer, verdict: Evidence) -> dict[int, Fraction]:
-    """The duals of a certificate of one leaf, by row."""
+    """The duals of a certificate of one leaf, by row of the program and in the objective's own
+    sense.
+
+    The verdict has them by the file's constraint; rows without one are left out, and so is that of
+    a nonlinear objective.
+    """
     if not verdict.duals:
         return {}
     rows = enumerate(answer.program.names.rows)
@@ -196,7 +239,14 @@ def proved_duals(answer: Answer, verdict: Evidence) -> dict[int, Fraction]:
 def kind_beside(answer: Answer, doubles: Sequence[float], objective: ObjectiveTerms) -> str:
     """What a point of another objective is beside the answer.
 
-    "" where each value is the same up to the digits that solvers print.
+    Args:
+        answer: One with a point.
+        doubles: The values of the point, by column.
+        objective: The objective's terms at the point.
+
+    Returns:
+        `a better` or `another`; "" where each value is within PRINTED_DIGITS of the answer's, of
+        the larger of both.
     """
     pairs = zip(doubles, answer.doubles)
     if all(abs(v - old) <= PRINTED_DIGITS * max(abs(v), abs(old)) for v, old in pairs):
@@ -206,13 +256,19 @@ def kind_beside(answer: Answer, doubles: Sequence[float], objective: ObjectiveTe
 
 
 def have_other_values(old: ObjectiveTerms, new: ObjectiveTerms) -> bool:
-    """Whether two objectives are not the same in doubles."""
+    """Whether two objectives are not the same in doubles: apart by more than RELATIVE_DIFFERENCE of
+    the largest term, or of the old one's sum.
+    """
     size = max(old.largest, new.largest, abs(old.value))
     return abs(old.value - new.value) > RELATIVE_DIFFERENCE * size
 
 
 def beats_proved_bound(answer: Answer, said: Statement) -> bool:
-    """Whether the answer is better than a bound, beside which no point is proved."""
+    """Whether the answer is better than a bound, beside which no point is proved.
+
+    It is where it is so by more than RELATIVE_DIFFERENCE of the bound or of the largest term of its
+    own objective, in doubles.
+    """
     if answer.values is None or said.bound is None or said.claim is not Claim.BOUND:
         return False
     own, limit = answer.objective_terms, double_or_infinite(said.bound)
@@ -221,7 +277,7 @@ def beats_proved_bound(answer: Answer, said: Statement) -> bool:
 
 
 def double_or_infinite(value: Fraction) -> float:
-    """The nearest double; infinite beyond doubles."""
+    """The nearest double of a fraction; beyond doubles it is infinite, with the fraction's sign."""
     double = nearest_double(value)
     if double is not None:
         return double
@@ -229,7 +285,10 @@ def double_or_infinite(value: Fraction) -> float:
 
 
 def nearest_doubles(values: Sequence[Fraction]) -> list[float]:
-    """The same of many. Each object is looked at once: most stand many times."""
+    """The double of each, as `double_or_infinite`.
+
+    Each object is looked at once: most stand many times.
+    """
     objects = {id(value): value for value in values}
     known = {place: double_or_infinite(value) for place, value in objects.items()}
     return [known[id(value)] for value in values]
@@ -238,7 +297,18 @@ def nearest_doubles(values: Sequence[Fraction]) -> list[float]:
 def _at_proved_point(
     answer: Answer, verdict: Evidence, proved: ProvedPoint, ruling: Ruling
 ) -> Resolution:
-    """At the point that was proved. A solver's `optimal` stands beside one that is feasible with the same objective."""
+    """What is passed on at the point that was proved, moved to it or, where it is the answer's own
+    but for digits, near it.
+
+    Where it is the answer's own, the solver's words stay with its own code, with a shortfall, or
+    with a gap that was asked for. With code 0 the duals of the certificate go with it.
+
+    Args:
+        answer: The solver's own.
+        verdict: What is proved.
+        proved: Its point.
+        ruling: The code, and what it falls short of.
+    """
     code, shortfall = ruling.code, ruling.shortfall
     kind = proved.kind
     duals = proved_duals(answer, verdict) if code == Code.SOLVED else {}
@@ -256,6 +326,8 @@ def _at_proved_point(
 
 
 def _words_of_code(answer: Answer, verdict: Evidence, code: Code) -> str | None:
-    """What is told in place of the solver's own words."""
+    """The words of a code that are told in place of the solver's own; of a gap that was asked for
+    and is met there are words of its own.
+    """
     is_within = code == Code.SOLVED and verdict.claim == "within"
     return WORDS_OF_GAP if is_within and answer.found.is_gap else WORDS[code]

@@ -2,6 +2,7 @@
 
 A row is multiplied where the file divides. The exported text does not tell by what: the dual of a
 row comes back from `bridge return` times its factor, so that duals of 1 come back as the factors.
+`certification` takes them out before a search, `statistics` tells them.
 """
 
 from __future__ import annotations
@@ -28,7 +29,8 @@ class WholeForm(NamedTuple):
     """A program in whole numbers, with the factors of its rows.
 
     Attributes:
-        factors: What `export` multiplied rows by, those that are not 1.
+        program: The file's own rows, that is without the factors.
+        factors: What `export` multiplied rows by, by the file's constraint, those that are not 1.
     """
 
     program: IntegerProgram
@@ -36,14 +38,18 @@ class WholeForm(NamedTuple):
 
 
 def factors_of(bridge: Bridge, nl: str, rows: Sequence[str], objective: int = 0) -> Dict[str, str]:
-    """By name of an exported row what it was multiplied by, as a text.
+    """What each exported row was multiplied by, as a decimal by the row's name.
 
     The proved program is asked only where the file divides: else no row is multiplied.
 
     Args:
-        nl: The path of the file.
-        rows: The names of the exported rows.
-        objective: The number of the objective that was exported.
+        bridge: The proved program.
+        nl: The path of the file, an .nl text.
+        rows: The names of the exported rows: c and the number of the constraint.
+        objective: The number of the objective that was exported, from 0.
+
+    Raises:
+        Refusal: The proved program does not take the duals back.
     """
     if not rows or not has_division(nl):
         return dict.fromkeys(rows, "1")
@@ -56,7 +62,9 @@ def factors_of(bridge: Bridge, nl: str, rows: Sequence[str], objective: int = 0)
 
 
 def has_division(nl: str) -> bool:
-    """Whether an .nl text has a line `o3`, the operator of a division."""
+    """Whether an .nl text has a line `o3`, the operator of a division, in any expression; leading
+    zeros do not matter.
+    """
     with open(nl, "rb") as file:
         text = file.read()
     place = text.find(b"\no")
@@ -69,10 +77,16 @@ def has_division(nl: str) -> bool:
 
 
 def whole_form(bridge: Bridge, nl: str, program: LinearProgram) -> WholeForm:
-    """A file's program in whole numbers.
+    """A file's program in whole numbers, for the search.
+
+    Args:
+        bridge: The proved program.
+        nl: The path of the file as the proved program reads it.
+        program: What was exported of it, or an MPS file's own program, which has no factors.
 
     Raises:
         UnsupportedModel: The search does not take it.
+        Refusal: The proved program does not tell the factors.
     """
     names = [name for name in program.names.rows if name != EPIGRAPH_ROW]
     if not program.is_exported:

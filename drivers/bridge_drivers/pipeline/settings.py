@@ -1,4 +1,7 @@
-"""How a model is solved and judged, as values. Commands make them of words, calls of Python of their arguments."""
+"""How a model is solved and judged, as values.
+
+Commands make them of words, calls of Python of their arguments, both by `option_values`.
+"""
 
 from __future__ import annotations
 
@@ -16,11 +19,12 @@ class CertificateSettings:
 
     Attributes:
         check: The proved program is asked what is true of the answer.
-        prove: A certificate of the optimum is searched for.
-        strict: What is not proved optimal, infeasible or unbounded has code 100. It implies `prove`.
+        prove: A certificate of the optimum is searched for, by long searches too.
+        strict: What is not proved optimal, infeasible or unbounded has code 100. Whoever sets it
+            sets `prove`, too.
         bound: Without `prove`, a bound of an integer program is looked for all the same.
         shorten: A shorter certificate is looked for in the time that is left.
-        processes: That search; 0 for as many as there are processors.
+        processes: That search; 0 for as many as there are processors, 1 for this process alone.
         cluster: The address of a scheduler of Dask whose workers search; "" for none.
         path: Where an accepted certificate is kept; "" for nowhere.
         overwrite: Another certificate at that path is replaced.

@@ -1,4 +1,8 @@
-"""One run, from the source of a model to its outcome."""
+"""One run, from the source of a model to its outcome.
+
+`SolveRun` finds the programs, reads the model and makes the folder in which an `AnsweredRun` goes on.
+The drivers and the calls of the package make one each time; `solve_model` is the same in one call.
+"""
 
 from __future__ import annotations
 
@@ -41,7 +45,11 @@ from .settings import Settings
 
 @contextlib.contextmanager
 def writing(path: str) -> Iterator[None]:
-    """A fault of writing in the block becomes a `FileFault`; `path` is told where it has no file of its own."""
+    """A block in which an OSError becomes a `FileFault` of writing.
+
+    Args:
+        path: Is told where the error has no file of its own.
+    """
     try:
         yield
     except OSError as fault:
@@ -52,9 +60,12 @@ def solve_model(source: Source, settings: Settings, monitor: Monitor | None = No
     """Solves a model, judges the answer, and keeps its certificate where that is asked for.
 
     Args:
-        source: The model, which has been read.
-        settings: How it is solved.
-        monitor: Is told what goes on.
+        source: The model, which has been opened.
+        settings: How it is solved and judged.
+        monitor: Is told what goes on; None for one of its own, which shows nothing.
+
+    Returns:
+        The outcome; no .sol and no solution's file is written yet (`outputs.write_outputs`).
 
     Raises:
         BridgeError: There is no outcome; its class says why.
@@ -64,13 +75,21 @@ def solve_model(source: Source, settings: Settings, monitor: Monitor | None = No
 
 
 def write_solver_input(source: Source, settings: Settings, overwrite: bool, named: str) -> Outcome:
-    """The MPS text that a solver reads, in a file beside the model; nothing is solved.
+    """Writes the MPS text that a solver reads into STUB.SOLVER.mps beside the model; nothing is
+    solved.
 
     Args:
         source: The model.
         settings: As for `solve_model`.
         overwrite: What stands at the place of the file is replaced.
-        named: The solver's program in the line that says how it is called.
+        named: The solver's program in the line that says how it is called; "" for its usual name.
+
+    Returns:
+        An outcome of code 450, whose message says how the solver is called; or that of a refused
+        empty interval.
+
+    Raises:
+        BridgeError: The model is refused, or the file cannot be written.
     """
     run = SolveRun(source, settings, Monitor("bridge-" + settings.solver))
     return run.input_outcome(overwrite=overwrite, named=named)
@@ -81,7 +100,7 @@ class ReadProgram(NamedTuple):
 
     Attributes:
         path: The text that the proved program judges.
-        program: What it exports.
+        program: What it exports of it, or an MPS file's own program.
         notes: Lines on how it was read.
     """
 
@@ -92,13 +111,19 @@ class ReadProgram(NamedTuple):
 
 @dataclass
 class SolveRun:
-    """One run. Tests put others in the place of what starts programs.
+    """One run; `outcome` or `input_outcome` is called once.
+
+    Tests put others in the place of what starts programs.
 
     Attributes:
         source: The model.
-        settings: How it is solved.
+        settings: How it is solved and judged.
         monitor: Is told what goes on.
         bridge_words: What starts the proved program, once it was found.
+        solver: The solver that the settings name.
+        bridge: The proved program, once it was found.
+        folder: The absolute path of the folder for files in between, while there is one.
+        solver_run_class: Makes what the solver works with; tests have one of stored runs.
     """
 
     source: Source
@@ -115,11 +140,20 @@ class SolveRun:
         self.solver = SOLVERS[self.settings.solver]
 
     def find_bridge(self) -> Bridge:
+        """Finds the proved program, and sets `bridge_words`. Its commands are told to the monitor.
+
+        Raises:
+            NotInstalled: It is nowhere.
+        """
         self.bridge_words = find_program(self.settings.bridge)
         return Bridge(self.bridge_words, self.monitor.command_starts)
 
     def find_solver(self) -> str:
-        """The absolute path, since the solver runs in another folder."""
+        """The absolute path of the solver's executable, since it runs in another folder.
+
+        Raises:
+            NotFound: It is not at the path that was named, or not on the PATH.
+        """
         named = self.settings.solver_path
         place = self.solver.find(named)
         if place is not None:
@@ -130,7 +164,12 @@ class SolveRun:
         raise NotFound(named or self.solver.executable, f"{remedy} or give solver=PATH")
 
     def outcome(self) -> Outcome:
-        """The outcome of the whole run."""
+        """The outcome of the whole run; files in between are removed unless they are to be kept.
+
+        Raises:
+            BridgeError: There is none.
+            Interrupted: A signal ended the run before it had one.
+        """
         self.bridge = self.find_bridge()
         self.bridge.file_names[self.source.path] = self.source.name
         solver_path = self.find_solver()
@@ -139,7 +178,7 @@ class SolveRun:
         return self._finished(outcome, kept_folder)
 
     def input_outcome(self, *, overwrite: bool, named: str) -> Outcome:
-        """As `write_solver_input`."""
+        """As `write_solver_input`, whose arguments these are."""
         self.bridge = self.find_bridge()
         self.bridge.file_names[self.source.path] = self.source.name
         with self._folder() as kept_folder:
@@ -159,7 +198,14 @@ class SolveRun:
 
     @contextlib.contextmanager
     def _folder(self) -> Iterator[str]:
-        """A folder for files in between, this run's alone: its path where it is kept, else "" and it is removed."""
+        """A block with a folder for files in between, this run's alone, whose path is in `folder`.
+
+        A signal does not come between its making and its removal but in the block. A fault of
+        writing in the block becomes a `FileFault`.
+
+        Yields:
+            Its path where it is kept; else "", and it is removed at the end.
+        """
         keep = self.settings.keep_folder
         with SIGNALS.deferred():
             kept = new_folder_in(keep, self.monitor.name) if keep else ""
@@ -173,7 +219,17 @@ class SolveRun:
                     shutil.rmtree(folder, ignore_errors=True)
 
     def _finished(self, outcome: Outcome, kept_folder: str) -> Outcome:
-        """The outcome with what is told of the whole run."""
+        """Sets what the whole run has to tell: in `kept_folder` and in the message where files are kept.
+
+        Where the outcome has no answer to return, the command's name is put in front of the message.
+
+        Args:
+            outcome: Is changed.
+            kept_folder: Where the files in between stay; "" where they do not.
+
+        Returns:
+            The same outcome.
+        """
         outcome.kept_folder = kept_folder
         if outcome.sol is None:
             outcome.lines[0] = f"{self.monitor.name}: {outcome.lines[0]}"
@@ -182,6 +238,14 @@ class SolveRun:
         return outcome
 
     def _solved(self, solver_path: str) -> Outcome:
+        """Reads the model and solves it, in `folder`.
+
+        Args:
+            solver_path: The absolute path of the solver's executable.
+
+        Returns:
+            The outcome, without what `_finished` adds.
+        """
         read_program = self._read()
         if isinstance(read_program, Outcome):
             return read_program
@@ -196,7 +260,10 @@ class SolveRun:
         return AnsweredRun(self.solver, settings, run, judge, notes).outcome()
 
     def _read(self) -> ReadProgram | Outcome:
-        """The program that is exported; an outcome where the proved program refuses an empty interval.
+        """The program that is exported; an outcome where the proved program refuses an empty
+        interval.
+
+        Where files in between are kept, the model's text is copied there.
 
         Raises:
             BridgeError: The model is refused, or the solver does not take it.
@@ -220,7 +287,18 @@ class SolveRun:
         return ReadProgram(path, program, notes)
 
     def _prepared(self, target: str) -> tuple[str, list[str]]:
-        """The path of the model as the proved program reads it, an MPS file as it stands; and notes."""
+        """The path of the model as the proved program reads it, and notes for the message.
+
+        An MPS file stands as it is. Of an .nl file that is binary, or whose numbers are to be
+        shortened, a text is written.
+
+        Args:
+            target: Where such a text is written.
+
+        Raises:
+            ModelRefused: Another objective than the first is asked of an MPS file.
+            Damaged: A binary .nl file cannot be read.
+        """
         if not self.source.is_mps:
             shortest = self.settings.shortest_numbers
             return text_of_nl(
@@ -234,7 +312,15 @@ class SolveRun:
         return self.source.path, []
 
     def _exported(self, path: str) -> LinearProgram:
-        """An MPS file's own program, with what the proved program makes of the file."""
+        """What the proved program makes of the file, with the user's own names and the seconds told
+        to the monitor.
+
+        Args:
+            path: That of the text which the proved program reads.
+
+        Raises:
+            Refusal: It refuses the file.
+        """
         if self.source.is_mps:
             with self.monitor.timing("reading"):
                 wanted = self.settings.mps_form
@@ -251,7 +337,18 @@ class SolveRun:
         return program
 
     def _refused(self, fault: Refusal, path: str) -> Outcome:
-        """In words; an objective that is not there by the number that the option says."""
+        """The outcome of a model that is refused for an empty interval: it is infeasible, and
+        nothing is proved; with `strict` that has code 100.
+
+        Args:
+            fault: The refusal.
+            path: That of the text which was refused.
+
+        Raises:
+            ModelRefused: It is refused for something else. An objective that is not there is told
+                by the number that the option says.
+            ProgramFailed: The program ended in another way than by a refusal.
+        """
         line, is_strict = fault.text, self.settings.certificate.strict
         if fault.told.endswith(": empty interval"):
             return Outcome(
@@ -268,7 +365,13 @@ class SolveRun:
 
 
 def _keep_copy(path: str, target: str) -> None:
-    """Copies the model's text into a folder that is kept; MiniZinc, for one, removes its file."""
+    """Copies the model's text into a folder that is kept, unless it stands there; MiniZinc, for
+    one, removes its file.
+
+    Args:
+        path: Of the text that the proved program reads.
+        target: Where in that folder it is to stand.
+    """
     is_there = os.path.exists(target) and os.path.samefile(path, target)
     if path != target and not is_there:
         shutil.copyfile(path, target)

@@ -1,7 +1,7 @@
 """The figures of a model, in lines for people and in values for programs.
 
 They are those of the text that `bridge export` writes, whose rows may be multiplied by factors;
-those are told beside.
+those are told beside. `nl-bridge` and the package's call `figures` make a `ModelStatistics`.
 """
 
 from __future__ import annotations
@@ -27,13 +27,25 @@ SIGNS = {"L": "<=", "G": ">=", "E": "="}
 
 
 class ModelStatistics:
-    """Of an .nl file, or of an MPS file's own program."""
+    """The figures of an .nl file, or of an MPS file's own program.
+
+    Attributes:
+        statistics: What is counted.
+        notes: Lines on how the model was read.
+        names: The names that the user knows.
+        factors: What each exported row was multiplied by, as a decimal by its name; empty of an MPS
+            file.
+    """
 
     def __init__(self, model: ReadModel, objective: int = 0) -> None:
-        """Refused where there is no program.
+        """Counts the program of a model with one of its objectives.
 
         Args:
+            model: Which was read.
             objective: The number of the objective, from 0.
+
+        Raises:
+            Refusal: The proved program refuses the model, or it has no such objective.
         """
         self.statistics = Statistics(model.program(objective))
         self.notes = list(model.notes)
@@ -46,11 +58,13 @@ class ModelStatistics:
             self.statistics.lost = [self._by_own_names(lost) for lost in self.statistics.lost]
 
     def lines(self) -> List[str]:
-        """What is printed, one figure a line."""
+        """What is printed: one figure a line, and the notes on the model behind them."""
         return statistics_lines(self.statistics, self.factors, self.names) + self.notes
 
     def values(self) -> Dict[str, object]:
-        """The same for programs: counts, and ranges in doubles."""
+        """The same for programs, as the key `stats` of report.schema.json: counts, and ranges in
+        doubles.
+        """
         found = self.statistics
         factor = found.epigraph_factor
         return {
@@ -79,7 +93,9 @@ class ModelStatistics:
         }
 
     def _by_own_names(self, lost: LostNumber) -> LostNumber:
-        """Rows and columns of an MPS file as they are called there."""
+        """The same number, its row and column (c and x with a number) told by the names that an MPS
+        file gives them.
+        """
         lists = {"c": self.names.row, "x": self.names.column}
         words = [
             lists[word[0]](int(word[1:])) if word[1:].isdigit() else word
@@ -92,7 +108,10 @@ def statistics_lines(found: Statistics, factors: Dict[str, str], names: NameList
     """What is printed, one figure a line.
 
     Args:
-        factors: By row of the text what it is multiplied by.
+        found: What is counted.
+        factors: By row of the text what it is multiplied by, as a decimal; rows of "1" are not
+            told.
+        names: The names that the user knows.
     """
     signs = ", ".join(f"{found.rows_of(kind)} {sign}" for kind, sign in SIGNS.items())
     kinds = ", ".join(f"{found.columns[kind]} {kind}" for kind in COLUMN_KINDS)
@@ -121,26 +140,38 @@ def statistics_lines(found: Statistics, factors: Dict[str, str], names: NameList
 
 
 def range_line(sizes: Collection[Exact]) -> str:
-    """`0.5 to 12`, or `none`."""
+    """The least and the greatest of exact sizes, in doubles: `0.5 to 12`, or `none` without sizes.
+
+    An end that no double holds is told as `beyond doubles`.
+    """
     ends = range_in_doubles(sizes)
     return " to ".join("beyond doubles" if end is None else f"{end:g}" for end in ends) or "none"
 
 
 def _list_line(items: List[str], what: str = "") -> str:
+    """How many items there are, with `what` behind the number, and the first MOST_NAMED of them;
+    `none` of none.
+    """
     return f"{len(items)}{what}: {first_of(items, MOST_NAMED)}" if items else "none"
 
 
 def _range_held(sizes: Collection[Exact]) -> Range | None:
-    """None where there is none, or an end is beyond doubles."""
+    """The least and the largest size in doubles; None where there are no sizes, or an end is beyond
+    doubles.
+    """
     ends = range_in_doubles(sizes)
     return ends if ends and None not in ends else None
 
 
 def _sense(found: Statistics) -> str:
+    """`maximise` or `minimise`, by the objective's own sense."""
     return "maximise" if found.program.maximise else "minimise"
 
 
 def _sense_line(found: Statistics) -> str:
+    """The sense in words, with the objective's constant, or where a nonlinear objective is tied to
+    the column z.
+    """
     line = _sense(found) + ("" if found.costs else ", no objective but a constant")
     if found.epigraph_factor is not None:
         return f"{line}; tied to column z by row zdef, times {found.epigraph_factor}"
@@ -148,4 +179,7 @@ def _sense_line(found: Statistics) -> str:
 
 
 def _row_name(row: str, names: NameLists) -> str:
+    """A row's name in the exported text (c and a number), and behind it the user's own where there
+    is one.
+    """
     return numbered_name(row, names.row(int(row[1:])) if row[1:].isdigit() else "")

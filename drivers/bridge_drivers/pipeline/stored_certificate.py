@@ -1,4 +1,8 @@
-"""Where an accepted certificate is kept, and what is done about an older one that stands there."""
+"""Where an accepted certificate is kept, and what is done about an older one that stands there.
+
+`certification` makes one `CertificateStore` for a run, and asks it at the end where a certificate
+is wanted.
+"""
 
 from __future__ import annotations
 
@@ -21,7 +25,8 @@ class StoredCertificate(NamedTuple):
     Attributes:
         line: The same in a line of the message.
         path: Where a certificate of the claim stands; None where none does.
-        has_failed: None stands where one was wanted.
+        has_failed: A certificate was accepted and could not be kept, and none of as much stands
+            there.
     """
 
     line: str
@@ -34,8 +39,8 @@ class CertificateStore:
 
     Attributes:
         bridge: Judges older certificates.
-        model: The path of the model that certificates are judged by.
-        maximise: The sense of its objective.
+        model: The path of the model as the proved program reads it.
+        maximise: The sense of its objective, by which it is decided what proves as much.
         overwrite: Another certificate is replaced.
     """
 
@@ -46,7 +51,15 @@ class CertificateStore:
         self.overwrite = overwrite
 
     def store(self, accepted: bytes, line: str, target: str) -> StoredCertificate:
-        """The text `accepted`, whose verdict is the line, at `target`, unless what stands there stays."""
+        """Writes an accepted certificate, unless what stands at its place stays.
+
+        What stays and proves of the model at least as much is as good: then nothing has failed.
+
+        Args:
+            accepted: The certificate's text.
+            line: The verdict on it.
+            target: The path where it is wanted.
+        """
         reads = [self.model, self.bridge.file_names.get(self.model, self.model)]
         try:
             files = OutputFiles(reads, model_kind_of_start, overwrite=self.overwrite)
@@ -62,12 +75,21 @@ class CertificateStore:
         return StoredCertificate(told, target)
 
     def without_certificate(self, target: str) -> StoredCertificate:
-        """Nothing was accepted."""
+        """What is told where nothing was accepted; what stands at the target is left as it is."""
         stays = f"; {target} stays as it was" if os.path.exists(target) else ""
         return StoredCertificate("no certificate is written" + stays)
 
     def still_proves(self, target: str, line: str) -> str:
-        """What an older certificate proves of the model as it is now, where that is no less than the line."""
+        """What an older certificate proves of the model as it is now, where that is no less than
+        the line.
+
+        Args:
+            target: The path of the older one, which has OLDER_SECONDS to be judged.
+            line: A verdict on this model.
+
+        Returns:
+            The verdict on the older one; "" where it is refused, proves less, or takes too long.
+        """
         try:
             older = self.bridge.verify(self.model, target, Deadline(OLDER_SECONDS))
         except (DeadlineExceeded, ProgramFailed):
