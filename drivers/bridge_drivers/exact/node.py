@@ -211,8 +211,7 @@ class Node:
     @contextlib.contextmanager
     def trying(self, branch: Branch) -> Iterator[None]:
         """A block within a branch, which is left at its end whatever happens, as strong branching
-        needs.
-        """
+        needs."""
         self.apply(branch)
         try:
             yield
@@ -244,14 +243,12 @@ class Node:
 
     def relaxation_bound(self) -> float:
         """The objective of the relaxation that was solved last, minimised, with its constant, in
-        doubles; only where that has an optimum.
-        """
+        doubles; only where that has an optimum."""
         return self.clp.objective() + self.constant
 
     def column_without_integers(self, columns: Iterable[int]) -> Optional[int]:
         """The first integer column of these that has both bounds and no integer between them; None
-        where there is none. Forms, whose bounds are whole, are skipped.
-        """
+        where there is none. Forms, whose bounds are whole, are skipped."""
         program = self.program
         lower, upper = self.box
         for column in columns:
@@ -266,16 +263,14 @@ class Node:
 
     def nearest_to_zero(self, column: int) -> float:
         """The value between a column's bounds that is nearest to 0, in doubles: a value to branch
-        at where CLP has no point.
-        """
+        at where CLP has no point."""
         low, high = self.box.lower[column], self.box.upper[column]
         least = max(low or 0, 0)
         return (least if high is None else min(least, high)) / self.program.bound_scale
 
     def _set_bound(self, change: BoundChange) -> None:
         """Writes a bound with its depth, also into CLP and, of a form, into the program's row.
-        Called for each branch that is gone into or left.
-        """
+        Called for each branch that is gone into or left."""
         program, column = self.program, change.column
         self.box[change.is_upper][column] = change.bound
         self.bound_depths[change.is_upper][column] = change.depth

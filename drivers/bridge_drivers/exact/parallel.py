@@ -280,8 +280,7 @@ class ParallelSearch:
 
     def _path(self, place: str) -> List[Branch]:
         """The branches that lead to a place, from the root, each in the direction that the place
-        says.
-        """
+        says."""
         return [
             self.branches[place[:depth]]._replace(direction=int(direction))
             for depth, direction in enumerate(place)
@@ -332,8 +331,7 @@ class ParallelSearch:
 
     def _drop(self, place: str) -> None:
         """Forgets the branches and proofs at a place and below it, and marks the subtrees there as
-        dropped.
-        """
+        dropped."""
         self.branches = {at: v for at, v in self.branches.items() if not at.startswith(place)}
         self.proved = {at: v for at, v in self.proved.items() if not at.startswith(place)}
         for subtree in self.subtrees():
@@ -342,8 +340,7 @@ class ParallelSearch:
 
     def _cancel_dropped(self) -> None:
         """Takes dropped subtrees out of `waiting`, and cancels their units that no process has
-        begun. The others are not taken when they end.
-        """
+        begun. The others are not taken when they end."""
         self.waiting = [subtree for subtree in self.waiting if not subtree.is_dropped]
         for future, subtree in self.running.items():
             if subtree.is_dropped:
@@ -361,8 +358,7 @@ class ParallelSearch:
 
         def rank(subtree: Subtree) -> tuple[float, int]:
             """What is least is split, and worked, first: by its dual bound, minimised, then by its
-            depth.
-            """
+            depth."""
             return subtree.dual_bound(), len(subtree.place)
 
         wanted = self.pool.workers * (1 + WAITING_UNITS) - len(self.running)
@@ -451,8 +447,7 @@ class ParallelSearch:
 
     def _withdraw(self) -> None:
         """Ends what is still worked, and its subtrees wait again as they were sent. At the end of
-        each run of the pool.
-        """
+        each run of the pool."""
         if self.running:
             self.pool.stop()
         self.waiting += [s for s in self.running.values() if not s.is_dropped]
@@ -481,13 +476,11 @@ def _result_of(subtree: Subtree, future: Future[UnitResult]) -> Optional[UnitRes
 
 def _remote(key: int, proved: ProvedSubtree) -> ProvedSubtree:
     """What stands for a proved subtree in another process: its count of nodes, under this key, and
-    the depths that it rests on.
-    """
+    the depths that it rests on."""
     return proved._replace(tree=[RemoteSubtree(key, node_count(proved.tree))])
 
 
 def _here(proved: ProvedSubtree, kept: Dict[int, Tree]) -> ProvedSubtree:
     """A proof of another process, with the trees that were kept here, by key, in place of what
-    stood for them.
-    """
+    stood for them."""
     return proved._replace(tree=with_remote(proved.tree, kept))

@@ -110,8 +110,7 @@ def _is_ranged(lower: Bound, upper: Bound) -> bool:
 
 def nearest_bound(lower: Bound, upper: Bound, value: float) -> Bound:
     """The bound that is nearer to a value over the same scale, of two as near the lower one; None
-    where there is no bound.
-    """
+    where there is no bound."""
     if lower is None or upper is None:
         return upper if lower is None else lower
     return lower if lower == upper or abs(lower - value) <= abs(upper - value) else upper
@@ -248,8 +247,7 @@ def rounded_integers(program: IntegerProgram, x: Sequence[Number]) -> Dict[int, 
 
 def with_fixed(program: IntegerProgram, fixed: Mapping[int, Fraction]) -> IntegerProgram:
     """The same program, but that the columns named in `fixed` have these values as both bounds. The
-    values are whole over `bound_scale`, and may be outside of the columns' own bounds.
-    """
+    values are whole over `bound_scale`, and may be outside of the columns' own bounds."""
     scale = program.bound_scale
     lower = [int(fixed[j] * scale) if j in fixed else v for j, v in enumerate(program.lower)]
     upper = [int(fixed[j] * scale) if j in fixed else v for j, v in enumerate(program.upper)]
@@ -340,8 +338,7 @@ def integer_residual(program: IntegerProgram, x: Sequence[Number]) -> Fraction:
 def _relative_violation(value: Fraction, lower: Bound, upper: Bound, size: Fraction) -> Fraction:
     """What a value misses its bounds by, as a share of the largest of it, the bound and `size`; 0
     where it misses none. All stand over the same scale, and `size` is above 0 where both others may
-    be 0.
-    """
+    be 0."""
     bound = value
     if lower is not None and value < lower:
         bound = Fraction(lower)

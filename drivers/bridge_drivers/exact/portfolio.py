@@ -133,11 +133,8 @@ class Strategy:
     proved_value: Optional[Fraction] = None
 
     def estimated_seconds(self) -> float:
-        """Seconds that are left, at least LEAST_ESTIMATE: as many as so far for each such share of
-        the tree as is proved.
-
-        Without any share, `first_estimate` says it, which may be infinite.
-        """
+        """Seconds that are left, at least LEAST_ESTIMATE, by the share of the tree that is proved
+        so far; by `first_estimate`, which may be infinite, where none is."""
         share = self.search.proved_share()
         rest = self.spent * (1 - share) / share if share else self.first_estimate
         return max(rest, LEAST_ESTIMATE) * self.correction
@@ -166,8 +163,7 @@ class Preparation:
 
     def add(self, cuts: List[ProvedCut], closed_share: float) -> None:
         """Takes the cuts that some seconds made; they replace those before. It was in vain where
-        they close not even LEAST_CLOSED_SHARE of the gap more.
-        """
+        they close not even LEAST_CLOSED_SHARE of the gap more."""
         is_vain = closed_share < self.closed_share + LEAST_CLOSED_SHARE
         self.cuts = cuts
         self.vain_attempts = self.vain_attempts + 1 if is_vain else 0
@@ -179,9 +175,8 @@ class Preparation:
 
 
 class Portfolio:
-    """Searches trees that no point is better than a value, or that there is no point at all.
-
-    Called are `race` or `run_plain`, once, and then `prove_bound` where there is no tree.
+    """Searches trees that no point is better than a value, or that there is no point at all: by
+    `race` or `run_plain`, once, and then where there is no tree by `prove_bound`.
 
     Attributes:
         lattice: Of the objective; None where it has none.
@@ -205,7 +200,7 @@ class Portfolio:
         shortens: bool = False,
         pool: Optional[WorkerPool] = None,
     ) -> None:
-        """Nothing is searched yet.
+        """Nothing is searched yet, and all that there is to prepare is still to be prepared.
 
         Args:
             value: Of the objective, minimised; None: there is to be no point.
@@ -231,8 +226,7 @@ class Portfolio:
     @property
     def dual_bound(self) -> float:
         """The best that a search has told: no point is better, minimised, as far as CLP's doubles
-        go. Minus infinity before there is one.
-        """
+        go. Minus infinity before there is one."""
         return max((strategy.search.dual_bound for strategy in self.strategies), default=-math.inf)
 
     def reports(self) -> List[str]:
@@ -242,13 +236,8 @@ class Portfolio:
     def begin(
         self, name: str, cuts: Sequence[ProvedCut] = (), forms: Sequence[Dict[int, int]] = ()
     ) -> Strategy:
-        """Adds a strategy, which has searched nothing yet.
-
-        Args:
-            name: PLAIN, MIR, CLIQUE or THIN.
-            cuts: Rows that its search stands below, behind the objective's.
-            forms: To branch on beside columns: whole coefficients by column.
-        """
+        """Adds a strategy, which has searched nothing yet, below the objective's row and these
+        cuts; it branches on these forms, too, which are whole coefficients by column."""
         above: List[Row] = [*self.objective.open_rows(), *(cut.row() for cut in cuts)]
         problem = SearchProblem(self.program, above, forms, self.objective.cutoff)
         search = ParallelSearch(problem, self.exact_point, self.deadline, self.pool)
@@ -260,8 +249,8 @@ class Portfolio:
     ) -> Optional[ImprovedIncumbent]:
         """Goes on with a strategy, for so many seconds or nodes.
 
-        It adds to the strategy's `spent`, sets its report, and ends it where it has a tree or
-        failed: then also `best`, where the tree is shorter.
+        It adds to the strategy's `spent`, sets its `report`, and ends it where it failed or has a
+        tree.
 
         Args:
             budget: Seconds; a reserve of the deadline is left however many they are.
@@ -289,11 +278,10 @@ class Portfolio:
     def race(self) -> Optional[ImprovedIncumbent]:
         """Runs all strategies in turns, until there is a tree, a better point, or no time.
 
-        The answer is in `best`; it restarts `started`. Without a tree `reports` say why, and the
-        paused searches can prove a bound.
+        The tree is in `best`; without one `reports` say why. The seconds count from its start.
 
         Returns:
-            A point that is better than the value, where one was found; then nothing goes on.
+            A point that is better than the value, where one was found.
         """
         self.started = self.deadline.spent()
         improved = self.resume(self.begin(PLAIN), self.seconds_left(), FIRST_NODES)
@@ -332,16 +320,14 @@ class Portfolio:
 
     def seconds_left(self) -> float:
         """For strategies: what is left of the deadline but for RESERVE of all its seconds, which is
-        for a bound. May be negative; infinite without a limit.
-        """
+        for a bound. May be negative; infinite without a limit."""
         if self.deadline.seconds == math.inf:
             return math.inf
         return self.deadline.left() - RESERVE * self.deadline.seconds
 
     def until(self, budget: float) -> float:
         """The second of the deadline after this budget of seconds, as far as there is time; now
-        where there is none.
-        """
+        where there is none."""
         return self.deadline.spent() + max(0.0, min(budget, self.seconds_left()))
 
     def seconds_so_far(self) -> float:
@@ -375,13 +361,8 @@ class Portfolio:
         least TURN_SECONDS, not past `end`, and one that is not the first no longer than there is
         time for others.
 
-        The estimates of a strategy that takes longer than it seemed to are corrected.
-
-        Args:
-            seconds_for_others: As `time_for_others` says.
-
-        Returns:
-            A point that is better than the value, where one was found.
+        The estimates of a strategy that takes longer than it seemed to are corrected. The answer is
+        a better point, where one was found.
         """
         estimate = strategy.estimated_seconds()
         seconds = max(min(strategy.spent, 2 * estimate), TURN_SECONDS)
@@ -449,8 +430,7 @@ class Portfolio:
 
     def _end_with_tree(self, strategy: Strategy, tree: Tree) -> None:
         """Ends a strategy that has its tree: sets its `has_ended`, `tree` and `report`, and `best`
-        where no tree before has as short a text.
-        """
+        where no tree before has as short a text."""
         strategy.has_ended = True
         text = self._text(strategy, self.objective, tree)
         strategy.tree = text
@@ -461,11 +441,8 @@ class Portfolio:
             self.best = text
 
     def _text(self, strategy: Strategy, objective: ObjectiveCutoff, tree: Tree) -> TreeText:
-        """The text of a strategy's tree, with the cuts that it needs.
-
-        Args:
-            objective: The cutoff that the tree is for: the portfolio's, or that of a bound.
-        """
+        """The text of a strategy's tree, with the cuts that it needs. The objective is that which
+        the tree is for: the portfolio's own, or that of a bound."""
         searched = strategy.search.search.program
         made = CertificateWithCuts(self.program, searched, objective, strategy.cuts, tree)
         text = "".join(line + "\n" for line in made.lines())
@@ -485,15 +462,8 @@ class Portfolio:
         return seconds > 0 and not self.deadline.is_interrupted
 
     def _likely_first(self, live: Sequence[Strategy]) -> Optional[Strategy]:
-        """The strategy that seems to end first; after a tree only one that seems to end in time, or
-        had no turn yet.
-
-        Args:
-            live: Those that have not ended.
-
-        Returns:
-            None where there is no such strategy.
-        """
+        """The one of these that seems to end first; after a tree only such as seem to end in time,
+        or had no turn yet. None where there is none."""
         candidates = [
             strategy
             for strategy in live
@@ -576,12 +546,9 @@ class Portfolio:
         preparation.begin_next()
 
     def _estimate_below_cuts(self, closed_share: float) -> float:
-        """Seconds that a search below cuts seems to take: those that are left of the plain one, by
-        SHARE_OF_REST of the gap that is left.
-
-        Args:
-            closed_share: Of the gap, by the cuts.
-        """
+        """Seconds that a search below cuts seems to take, which close such a share of the gap:
+        those that are left of the plain one, times SHARE_OF_REST and the share of the gap that is
+        left."""
         if self.has_no_value:
             return TURN_SECONDS
         forecast = FARTHEST_FORECAST * self.seconds_so_far()
@@ -611,12 +578,8 @@ class Portfolio:
 
 
 def _next_turn(live: Sequence[Strategy], first: Strategy, budget: float) -> Strategy:
-    """The first strategy, or where there is time for a turn of another, the one that had least.
-
-    Args:
-        live: Those that have not ended, `first` too.
-        budget: Seconds for others, as `Portfolio.time_for_others` says.
-    """
+    """The first strategy, or where the budget (`Portfolio.time_for_others`) is enough for a turn of
+    another of `live`, the one that had least."""
     if budget < TURN_SECONDS:
         return first
     others = [strategy for strategy in live if strategy is not first]

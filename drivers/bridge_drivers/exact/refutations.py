@@ -1,7 +1,9 @@
 """Proofs that a program has no point, or that its objective has no bound.
 
 That there is no point is shown by one split disjunction that rounding gives, by Farkas multipliers,
-or by a tree whose leaves are such; that the objective has no bound, by a point and a ray.
+or by a tree whose leaves are such; that the objective has no bound, by a point and a ray. The
+certifiers share one `Refuter`; what it yields is `Evidence`, mostly claims that the judge has
+looked at, and the caller takes the first that is proved.
 """
 
 from __future__ import annotations
@@ -31,17 +33,25 @@ class Refuter:
     """Refutes one program, as far as there is time.
 
     Attributes:
-        has_sought_ray: A ray was looked for to the end.
+        has_sought_ray: A ray was looked for to the end, whether one was found or not.
     """
 
     def __init__(self, task: CertificationTask) -> None:
+        """Nothing is tried yet. The program and the store are those of the task."""
         self.task = task
         self.program = task.program
         self.store = task.store
         self.has_sought_ray = False
 
     def refute(self, on_point: OnPoint) -> Iterator[Evidence]:
-        """That there is no point; where one is found, what follows from it."""
+        """Yields proofs that there is no point, the cheapest first; where a search finds one, what
+        follows from it.
+
+        Where nothing is proved, the last evidence says why.
+
+        Args:
+            on_point: What is yielded from a point that a search finds.
+        """
         yield from self.rounding_refutations()
         try:
             if self.task.is_linear and is_small(self.program):
@@ -57,10 +67,11 @@ class Refuter:
             yield found
 
     def rounding_refutations(self) -> Iterator[Evidence]:
-        """By one split disjunction, which is asked for in each run.
+        """Yields proofs by one split disjunction, which is asked for in each run, since it is
+        quick.
 
         An integer column or row of such has no integer between its bounds, or equations have no
-        integer solution.
+        integer solution. Nothing is yielded where neither is so.
         """
         for find_refutation, figures in (
             (empty_interval, "no whole number between two ends"),
@@ -72,8 +83,12 @@ class Refuter:
                 yield self.store.judged(lines, figures)
 
     def by_relaxation_at_last(self) -> Iterator[Evidence]:
-        """Of a small integer program whose search ended without a tree: what its relaxation proves
-        in fractions."""
+        """Yields what the relaxation of a small integer program proves in fractions: that it has no
+        point, or an optimum or ray at an integer one. Called where the search ended without a tree.
+
+        Only what is proved is yielded, and without duals, which are not those of the integer
+        program.
+        """
         if self.task.is_linear or not is_small(self.program):
             return
         for evidence in self.by_rational_simplex():
@@ -81,10 +96,16 @@ class Refuter:
                 yield evidence._replace(duals={})
 
     def by_rational_simplex(self, answer: AnswerByPlace = AnswerByPlace()) -> Iterator[Evidence]:
-        """What is true of a small linear program, from the basis of an answer.
+        """Yields what is true of a small linear program, from the basis of an answer, by the
+        simplex method in fractions.
 
         Of an integer program that is something where its relaxation has no point, or ends at an
-        integer one.
+        integer one. An optimum goes to the store, too: its point, and its duals as a bound. Where
+        the time ends it is `not proved`.
+
+        Args:
+            answer: Its basis and values are where the method begins; without them, at the rows'
+                basis and near 0.
         """
         self.task.deadline.tell_step("the simplex method in fractions")
         try:
@@ -106,7 +127,15 @@ class Refuter:
                 yield from self.store.claim_of_optimum(point, leaf)
 
     def certify_ray(self) -> Evidence:
-        """That the objective has no bound, where a point and a ray are found."""
+        """That the objective has no bound, where a point and a ray are found; else `not proved`
+        with the reason.
+
+        Of an answer to the relaxation of an integer program nothing is tried: that says nothing of
+        the program.
+
+        Raises:
+            SearchEnded: The time ended in the simplex method in fractions.
+        """
         if self.task.options.is_relaxation and not self.task.is_linear:
             return not_proved("only the relaxation is unbounded")
         ray = self.find_ray()
@@ -118,7 +147,8 @@ class Refuter:
         return self.store.claim_of_ray(point, ray)
 
     def ray_of_point(self, point: Optional[Point]) -> Iterator[Evidence]:
-        """By a known point and a ray, which is looked for wherever no bound is known."""
+        """Yields that the objective has no bound, by a known point and a ray. Such is looked for
+        wherever a point but no bound is known."""
         if point is None or self.store.bound is not None:
             return
         ray = self.find_ray()
@@ -126,7 +156,17 @@ class Refuter:
             yield self.store.claim_of_ray(point, ray)
 
     def find_ray(self) -> Optional[Point]:
-        """A ray, whatever its gain is; of a small program by the simplex method in fractions."""
+        """A ray of the program in its own units, whatever its gain is; of a small program by the
+        simplex method in fractions. Integer marks count nothing.
+
+        Sets `has_sought_ray`.
+
+        Returns:
+            None where columns' bounds say that there is none, at once, or none is found.
+
+        Raises:
+            SearchEnded: The time ended in the simplex method in fractions.
+        """
         if has_no_ray(self.program):
             return None
         cone = self.program.recession_cone()
@@ -139,15 +179,18 @@ class Refuter:
         return found
 
     def may_be_unbounded(self) -> bool:
-        """Whether no bound is known, and no ray was looked for to the end."""
+        """Whether no bound is known, no ray was looked for to the end, and columns' bounds do not
+        exclude one. It is told where the time was over."""
         is_known = self.has_sought_ray or self.store.bound is not None
         return not is_known and not has_no_ray(self.program)
 
     def _refute_by_tree(self) -> Union[Evidence, ImprovedIncumbent]:
-        """By a tree whose leaves are all Farkas multipliers.
+        """A claim by a tree whose leaves are all Farkas multipliers, as the judge has it, or a
+        point.
 
         Raises:
-            SearchEnded: There is no tree.
+            SearchEnded: There is no tree; the reason is the plain search's, or an interrupt.
+            ClpNotInstalled: There is no library of CLP.
         """
         portfolio = self.task.portfolio(self.program.without_costs(), None)
         is_race = self.task.options.proves and not self.task.is_linear
@@ -162,13 +205,23 @@ class Refuter:
     def _run_rational_simplex(
         self, program: IntegerProgram, answer: AnswerByPlace
     ) -> SimplexResult:
+        """Runs the simplex method in fractions, from the basis of an answer, or from that of the
+        rows.
+
+        Args:
+            program: The task's, or a cone or relaxation of it with as many columns.
+
+        Raises:
+            SearchEnded: The time is over, or an interrupt came.
+        """
         tableau = RationalSimplex(program, lambda: self.task.deadline.check_search(0, math.inf))
         columns = answer.basis.columns if answer.basis is not None else []
         tableau.install_basis(columns, answer.doubles() or [0.0] * program.n)
         return tableau.run()
 
     def _any_point(self) -> Optional[Point]:
-        """A feasible point, whatever its objective."""
+        """An exact feasible point, whatever its objective; None where none is found. Of an integer
+        program by a search, which may take all the time that is left."""
         program = self.program.without_costs()
         if self.task.is_linear:
             return self._any_linear_point(program)
@@ -180,6 +233,12 @@ class Refuter:
         return found.point if isinstance(found, ImprovedIncumbent) else None
 
     def _any_linear_point(self, program: IntegerProgram) -> Optional[Point]:
+        """An exact feasible point near that of CLP, else by the simplex method in fractions; None
+        where there is none.
+
+        Args:
+            program: Without integer columns and costs.
+        """
         clp, found = relaxation(program), None
         if clp.solve() is LpStatus.OPTIMAL:
             found = next(points.nearby_points(program, clp.values()), None)
@@ -191,6 +250,7 @@ class Refuter:
 
 
 def has_no_ray(program: IntegerProgram) -> bool:
-    """Whether each column with a cost is bounded on its better side: then there is no ray."""
+    """Whether each column with a cost is bounded on its better side: then there is no ray. False
+    says nothing."""
     bounds = zip(program.costs, program.lower, program.upper)
     return all((lower if cost > 0 else upper) is not None for cost, lower, upper in bounds if cost)

@@ -1,4 +1,8 @@
-"""The relaxation of a program, and its phase one, ready to be solved by CLP."""
+"""The relaxation of a program, and its phase one, ready to be solved by CLP.
+
+Whatever needs CLP's answer on an `IntegerProgram` (nodes, cuts, points, certifiers) makes its `Clp`
+here.
+"""
 
 from __future__ import annotations
 
@@ -13,19 +17,24 @@ PHASE_ONE_TOLERANCE = 1e-9
 
 
 def relaxation(program: IntegerProgram, *, has_costs: bool = True) -> Clp:
-    """The program without its integer marks.
+    """The program in doubles without its integer marks, not solved yet.
 
     Args:
-        has_costs: False: any feasible point is wanted.
+        has_costs: False: all costs are 0, since any feasible point is wanted.
+
+    Raises:
+        ClpNotInstalled: There is no library of CLP.
     """
     return Clp(program.in_doubles(has_costs=has_costs))
 
 
 def phase_one(program: IntegerProgram) -> Clp:
-    """The relaxation of the program that minimises by how much rows are missed.
+    """The relaxation of the program that minimises by how much rows are missed, not solved yet. Its
+    duals are Farkas multipliers, where the ray that CLP has proves nothing.
 
     Each row has two artificial columns more, in its own `row_unit`: column n + i adds to row i, and
-    n + m + i takes away from it. Each costs 1. The optimum is 0 where the rows have a point.
+    n + m + i takes away from it. Each costs 1. The optimum is 0 where the rows have a point. The
+    columns' bounds are the program's own; the caller sets those of a node.
     """
     doubles = program.in_doubles(has_costs=False)
     m = program.m
@@ -45,6 +54,7 @@ def phase_one(program: IntegerProgram) -> Clp:
 
 
 def row_unit(program: IntegerProgram, row: int) -> Fraction:
-    """1, or the power of two near the coefficients of a row where all of them are small."""
+    """1, or the power of two near the coefficients of a row, in the row's own units, where all of
+    them are small: so large is a row's miss that counts as 1 in phase one."""
     greatest = max((abs(a) for _, a in program.rows[row]), default=0) / program.row_scale
     return 1 / Fraction(scaling_power(greatest))
