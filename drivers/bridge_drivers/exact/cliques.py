@@ -2,7 +2,7 @@
 
 A literal is a binary column or its complement. Two literals exclude each other where one row says
 so; these pairs are the edges of a conflict graph, and its cliques give cuts (Atamtürk, Nemhauser
-and Savelsbergh 2000).
+and Savelsbergh 2000). `cuts` asks for `clique_cuts` in each round at the root, and proves them.
 """
 
 from __future__ import annotations
@@ -26,7 +26,7 @@ class Literal(NamedTuple):
 
 
 class Item(NamedTuple):
-    """A literal, and what it takes of a row's capacity where it is 1."""
+    """A literal, and what it takes of a row's capacity where it is 1: above 0, over `row_scale`."""
 
     weight: int
     literal: Literal
@@ -36,6 +36,9 @@ class KnapsackRow(NamedTuple):
     """One side of a row over its binary literals: weights times literals are at most `capacity`.
 
     All other columns stand at the bounds where they take least.
+
+    Attributes:
+        capacity: At least 0, over `row_scale` as weights are.
     """
 
     items: List[Item]
@@ -46,9 +49,12 @@ class CliqueCut(NamedTuple):
     """A cut: the columns times `coefficients` are at most `rhs`.
 
     Attributes:
-        violation: By the relaxation's optimum.
-        smaller: Cuts of growing parts of the clique. Below those before it each is proved by few
-            nodes: where two of its literals are 1, a pair among them exclude each other.
+        violation: How much more the left side is than `rhs` at the relaxation's optimum; below 0
+            where the cut is satisfied there.
+        coefficients: 1 or -1 by column.
+        smaller: Cuts of growing parts of the clique, from three literals on. Below those before it
+            each is proved by few nodes: where two of its literals are 1, a pair among them exclude
+            each other.
     """
 
     violation: float
@@ -58,7 +64,11 @@ class CliqueCut(NamedTuple):
 
 
 def knapsack_rows(program: IntegerProgram) -> Iterator[KnapsackRow]:
-    """Each side of each row that some point satisfies, with its binary literals."""
+    """The sides of rows over their binary literals, by row, the upper side first.
+
+    Left out are sides without a bound or that no point within the columns' bounds satisfies, sides
+    of which other columns take without end, and rows of more than MOST_ROW_ENTRIES entries.
+    """
     for row, lower, upper in zip(program.rows, program.row_lower, program.row_upper):
         if len(row) > MOST_ROW_ENTRIES:
             continue
@@ -78,7 +88,10 @@ def knapsack_rows(program: IntegerProgram) -> Iterator[KnapsackRow]:
 
 
 def conflict_graph(program: IntegerProgram) -> Dict[Literal, Set[Literal]]:
-    """By literal, those that one row excludes beside it: both weights exceed the capacity."""
+    """By literal, those that one row excludes beside it: `weight + other weight > capacity`.
+
+    Literals without a conflict are not named. Raises TimeOver, between rows.
+    """
     found: Dict[Literal, Set[Literal]] = {}
     for items, capacity in knapsack_rows(program):
         check_work()
@@ -91,7 +104,11 @@ def conflict_graph(program: IntegerProgram) -> Dict[Literal, Set[Literal]]:
 
 
 def clique_cuts(program: IntegerProgram, x: Sequence[float]) -> Iterator[CliqueCut]:
-    """From each literal the clique that grows greedily by the greatest values at x.
+    """Cuts of cliques that grow greedily, from each of the MOST_CLIQUES literals of greatest value.
+
+    A clique takes in the literal of greatest value at x that conflicts with all before it. Each of
+    at least three literals is yielded once, whether x violates it or not; pairs are left out, since
+    a row says them already.
 
     Args:
         x: The relaxation's optimum, by column.
@@ -103,6 +120,7 @@ def clique_cuts(program: IntegerProgram, x: Sequence[float]) -> Iterator[CliqueC
     }
 
     def rank(literal: Literal) -> tuple[float, Literal]:
+        """By falling value at x, of equal ones by column and sign."""
         return -values[literal], literal
 
     seen: Set[frozenset[Literal]] = set()
@@ -118,7 +136,15 @@ def clique_cuts(program: IntegerProgram, x: Sequence[float]) -> Iterator[CliqueC
 
 
 def clique_cut(literals: Sequence[Literal], values: Mapping[Literal, float]) -> CliqueCut:
-    """The sum of the literals is at most 1, where a complement counts as 1 less its column."""
+    """The cut `sum of the literals <= 1`, where a complement counts as 1 less its column.
+
+    Args:
+        literals: Of which each two exclude each other.
+        values: By literal, at the relaxation's optimum.
+
+    Returns:
+        The cut over columns, without smaller ones.
+    """
     return CliqueCut(
         sum(values[literal] for literal in literals) - 1,
         {literal.column: literal.sign for literal in literals},
@@ -129,7 +155,15 @@ def clique_cut(literals: Sequence[Literal], values: Mapping[Literal, float]) -> 
 def _least_activity(
     program: IntegerProgram, row: Sequence[tuple[int, int]], sign: int
 ) -> Optional[int]:
-    """The least of sign times the row, over row_scale and bound_scale; None where it has none."""
+    """The least of `sign` times a row within the columns' bounds; None where it has no end.
+
+    Args:
+        row: Pairs of a column and a coefficient over `row_scale`.
+        sign: 1, or -1 where the row's lower side is meant.
+
+    Returns:
+        Over `row_scale` and `bound_scale`.
+    """
     total = 0
     for j, a in row:
         bound = (program.lower if sign * a > 0 else program.upper)[j]
@@ -140,6 +174,7 @@ def _least_activity(
 
 
 def _is_binary(program: IntegerProgram, column: int) -> bool:
+    """Whether an integer column has the bounds 0 and 1."""
     return (
         program.is_integer[column]
         and program.lower[column] == 0

@@ -1,7 +1,8 @@
 """CLP in this process, by its C interface, for relaxations that are solved again and again.
 
 The library is loaded when it is first asked for. What CLP answers is in doubles and is proved
-elsewhere; each solve begins from the basis of the one before.
+elsewhere; each solve begins from the basis of the one before. `Clp` is made by `relaxation`, and
+where a program in doubles was changed by `basis` and `short_points`.
 """
 
 from __future__ import annotations
@@ -32,6 +33,8 @@ _DOUBLE = ctypes.c_double
 
 
 class _Signature(NamedTuple):
+    """The types of C that a call of the library returns and takes."""
+
     returns: Any  # None: nothing
     takes: Tuple[Any, ...]
 
@@ -92,20 +95,29 @@ class VariableStatus(enum.IntEnum):
 
 
 class Basis(NamedTuple):
-    """Basic columns, and rows that are not basic: as many, where CLP's basis is complete."""
+    """A basis, by the numbers of columns and rows.
+
+    Attributes:
+        columns: Those that are basic.
+        rows: Those that are not basic: as many as columns, where CLP's basis is complete.
+    """
 
     columns: List[int]
     rows: List[int]
 
 
 def library() -> Optional[ctypes.CDLL]:
-    """CLP's library with the types of its calls; None where it is not installed."""
+    """CLP's library with the types of its calls; None where it is not installed.
+
+    It is looked for once in a process.
+    """
     if not LOADED:
         LOADED.append(_load())
     return LOADED[0]
 
 
 def _load() -> Optional[ctypes.CDLL]:
+    """The first library by the known names that has all calls, whose types are set; else None."""
     for name in filter(None, (*LIBRARY_NAMES, ctypes.util.find_library("Clp"))):
         try:
             found = ctypes.CDLL(name)
@@ -123,11 +135,21 @@ class Clp:
     """A relaxation whose bounds change. What is asked of it is of the last `solve`.
 
     CLP's tolerances are of fixed size and hide what small numbers say: so columns with small bounds
-    are multiplied by a power of two, and so are small costs. CLP scales rows itself.
+    are multiplied by a power of two, and so are small costs. CLP scales rows itself. What methods
+    take and answer is in the program's own units.
 
     Attributes:
         deadline_of_all: With which each solve of any relaxation ends at last.
-        seconds: How long one solve of this relaxation may take.
+        seconds: Of the wall, that one solve of this relaxation may take.
+        n: The count of columns.
+        m: The count of rows.
+        column_factors: By column: CLP's value is this times the column's own.
+        cost_factor: CLP's objective is this times the program's.
+        lower: Bounds of columns in CLP's units, an array of C; INFINITE in size: there is none. All
+            bounds are given to CLP at the beginning of a solve.
+        upper: The same from above.
+        row_lower: Bounds of rows, as those of columns, but that rows have no factors.
+        row_upper: The same from above.
 
     Raises:
         ClpNotInstalled: There is no library of CLP.
@@ -138,10 +160,11 @@ class Clp:
 
     @classmethod
     def restrict(cls, deadline: Deadline) -> None:
-        """From now on all solves of all relaxations end with it."""
+        """From now on each solve of any relaxation of this process stops where it is over."""
         cls.deadline_of_all = deadline
 
     def __init__(self, program: DoubleProgram) -> None:
+        """Gives the program to CLP; nothing is solved yet, and the basis is CLP's first one."""
         found = library()
         if found is None:
             raise ClpNotInstalled()
@@ -159,34 +182,45 @@ class Clp:
         self._load_problem(program, costs)
 
     def __del__(self) -> None:
+        """Gives CLP's memory back; also where `__init__` has failed."""
         if getattr(self, "model", None):
             self.lib.Clp_deleteModel(self.model)
             self.model = None
 
     def limit(self, deadline: Deadline) -> None:
-        """A solve of this relaxation gets the time that is left now, with a least and a most."""
+        """Sets `seconds` to what the deadline has left now.
+
+        A solve gets at least LEAST_SOLVE_SECONDS and at most MOST_SOLVE_SECONDS so.
+        """
         self.seconds = min(max(deadline.left(), LEAST_SOLVE_SECONDS), MOST_SOLVE_SECONDS)
 
     def set_tolerance(self, tolerance: float) -> None:
-        """By how much rows and bounds may be missed."""
+        """By how much rows and bounds may be missed (CLP's primal tolerance), in CLP's units."""
         self.lib.Clp_setPrimalTolerance(self.model, tolerance)
 
     def set_bounds(self, column: int, lower: DoubleBound, upper: DoubleBound) -> None:
-        """Of a column, from the next solve on."""
+        """Gives a column other bounds, from the next solve on; None: there is no such bound."""
         factor = self.column_factors[column]
         self.lower[column] = -INFINITE if lower is None else lower * factor
         self.upper[column] = INFINITE if upper is None else upper * factor
 
     def set_row_bounds(self, row: int, lower: DoubleBound, upper: DoubleBound) -> None:
-        """The same of a row."""
+        """Gives a row other bounds, from the next solve on; None: there is no such bound."""
         self.row_lower[row] = -INFINITE if lower is None else lower
         self.row_upper[row] = INFINITE if upper is None else upper
 
     def solve(self, most_iterations: int = ITERATIONS, *, by_primal: bool = False) -> LpStatus:
-        """From the basis that it has, by the dual simplex method or the primal one.
+        """Solves from the basis that it has, by the dual simplex method or the primal one.
 
         CLP's own limit counts seconds of the processor, of which a busy machine gives few: it gets
-        slices, and after each the clock is looked at.
+        slices, and after each the clock is looked at. A slice is at most twice the one before, and
+        at most what the processor gives in the time that is left, by what it gave in that one.
+
+        Args:
+            most_iterations: Of the method; 0: the values and duals of the basis are wanted.
+
+        Returns:
+            OTHER where it was stopped by iterations, `seconds` or `deadline_of_all`.
         """
         lib, model = self.lib, self.model
         self._send_bounds()
@@ -209,26 +243,35 @@ class Clp:
         return LpStatus(status) if status in (0, 1, 2) else LpStatus.OTHER
 
     def solve_by_either(self) -> LpStatus:
-        """By the dual simplex method, and by the primal one where that finds no optimum."""
+        """Solves by the dual simplex method, and by the primal one where that finds no optimum.
+
+        Each of both has the whole of `seconds`. The status is that of the last.
+        """
         status = self.solve()
         return status if status is LpStatus.OPTIMAL else self.solve(by_primal=True)
 
     def objective(self) -> float:
-        """Minimised, without the constant."""
+        """The objective that the last solve ended at, minimised, without the constant."""
         return float(self.lib.Clp_objectiveValue(self.model)) / self.cost_factor
 
     def values(self) -> List[float]:
-        """By column."""
+        """By column the value that the last solve ended at."""
         found = _read(self.lib.Clp_primalColumnSolution(self.model), self.n)
         return [x / factor for x, factor in zip(found, self.column_factors)]
 
     def duals(self) -> List[float]:
-        """By row, of the program as it is minimised: above 0 at lower row bounds."""
+        """By row the dual that the last solve ended at, as the program is minimised.
+
+        It is above 0 at a lower row bound, and below 0 at an upper one, but for rounding.
+        """
         found = _read(self.lib.Clp_dualRowSolution(self.model), self.m)
         return [dual / self.cost_factor for dual in found]
 
     def farkas_multipliers(self) -> List[float]:
-        """Multipliers of the rows that refute them, or those times -1; none where CLP has none."""
+        """After an infeasible solve: by row, multipliers of any size that refute the rows.
+
+        They may be meant times -1: the caller tries both. Empty where CLP has none.
+        """
         place = self.lib.Clp_infeasibilityRay(self.model)
         if not place:
             return []
@@ -237,10 +280,11 @@ class Clp:
         return multipliers
 
     def row_of_inverse(self, column: int, basis: bytes) -> List[float]:
-        """The row of a basic column in the inverse of a basis: multipliers of rows.
+        """The row of a basic column in the inverse of a basis: multipliers by row.
 
         They leave 1 in this column and 0 in the other basic ones, so that they are the basis'
-        duals where the column alone has a cost. The costs of this relaxation are lost.
+        duals where the column alone has a cost. The costs of this relaxation are lost: it is good
+        for no other solve afterwards.
 
         Args:
             basis: As `saved_basis` has it.
@@ -253,15 +297,25 @@ class Clp:
         return self.duals()
 
     def saved_basis(self) -> bytes:
-        """The basis, for `restore_basis` of this or an equal relaxation."""
+        """The present basis, a byte for each column and then for each row.
+
+        For `restore_basis` of this relaxation, or of one with as many columns and rows.
+        """
         return ctypes.string_at(self.lib.Clp_statusArray(self.model), self.n + self.m)
 
     def restore_basis(self, basis: bytes) -> None:
-        """The next solve begins from it."""
+        """The next solve begins from this basis, as `saved_basis` has it."""
         self.lib.Clp_copyinStatus(self.model, basis)
 
     def warm_start(self, basis: Basis, x: Sequence[float]) -> None:
-        """The next solve begins from this basis; other columns stand at a bound, the one near x."""
+        """The next solve begins from this basis.
+
+        A column that is not basic stands at the bound near x, and a row at its lower bound where it
+        has one, else at the upper.
+
+        Args:
+            x: By column.
+        """
         statuses = bytearray([VariableStatus.BASIC] * (self.n + self.m))
         is_basic = set(basis.columns)
         for j in range(self.n):
@@ -275,7 +329,7 @@ class Clp:
         self.restore_basis(bytes(statuses))
 
     def basis(self) -> Basis:
-        """The basis of the last solve."""
+        """The basis of the last solve, or the one that was given since."""
         basic = [status & STATUS_BITS == VariableStatus.BASIC for status in self.saved_basis()]
         return Basis(
             [j for j in range(self.n) if basic[j]],
@@ -283,9 +337,15 @@ class Clp:
         )
 
     def _scaled(self, bounds: Iterable[DoubleBound]) -> Iterable[DoubleBound]:
+        """Bounds by column in CLP's units; None where there is none."""
         return (bound and bound * by for bound, by in zip(bounds, self.column_factors))
 
     def _load_problem(self, program: DoubleProgram, costs: Sequence[float]) -> None:
+        """Gives CLP the program, which tells nothing of its own and drops no small coefficient.
+
+        Args:
+            costs: By column, over its factor, not yet times `cost_factor`.
+        """
         columns = program.columns.over(self.column_factors)
         self.lib.Clp_setLogLevel(self.model, 0)
         self.lib.Clp_setSmallElementValue(self.model, 0.0)
@@ -304,6 +364,7 @@ class Clp:
         )
 
     def _send_bounds(self) -> None:
+        """Gives CLP all bounds as they stand in the arrays; at the beginning of each solve."""
         self.lib.Clp_chgColumnLower(self.model, self.lower)
         self.lib.Clp_chgColumnUpper(self.model, self.upper)
         if self.m:
@@ -311,41 +372,58 @@ class Clp:
             self.lib.Clp_chgRowUpper(self.model, self.row_upper)
 
     def _is_stopped(self) -> bool:
-        """By its time or its iterations, which is CLP's status 3."""
+        """Whether the last solve was stopped by its time or its iterations: CLP's status 3."""
         return bool(self.lib.Clp_status(self.model) == 3)
 
 
 def scaling_power(size: float) -> float:
-    """The power of two that brings a small number to about 1; 1 for 0 and what is not small."""
+    """The power of two that brings a number below SMALL to about 1; 1 for 0 and other numbers."""
     return 2.0 ** -math.frexp(size)[1] if 0 < size < SMALL else 1.0
 
 
 def _column_factor(bounds: Tuple[DoubleBound, DoubleBound]) -> float:
-    """The power of two that a column is multiplied by: above 1 where both bounds are small."""
+    """The power of two that a column is multiplied by in CLP.
+
+    It is above 1 where both bounds are there, are not both 0, and are below SMALL in size.
+    """
     if None in bounds:
         return 1.0
     return scaling_power(max((abs(bound) for bound in bounds if bound), default=1.0))
 
 
 def _doubles(values: Sequence[float]) -> Any:
+    """An array of C with these doubles; one 0 where there are none, since CLP wants an address."""
     return (ctypes.c_double * max(len(values), 1))(*values)
 
 
 def _bounds(bounds: Iterable[DoubleBound], infinite: float) -> Any:
+    """An array of C with these bounds, and `infinite` (with its sign) where there is none."""
     return _doubles([infinite if bound is None else bound for bound in bounds])
 
 
 def _memory(kind: Any, values: Any) -> Any:
-    """The numbers of an array where they stand, without a copy."""
+    """The numbers of an array where they stand, without a copy, as an array of C.
+
+    Args:
+        kind: Their type of C.
+        values: An array of that type, or one of NumPy; where it is empty the answer has one 0.
+    """
     return (kind * len(values)).from_buffer(values) if len(values) else (kind * 1)()
 
 
 def _read(place: int, count: int) -> List[float]:
+    """A copy of the `count` doubles at an address of CLP's, which may be null where it is 0."""
     return list((ctypes.c_double * count).from_address(place)) if count else []
 
 
 def _nearest_bound(lower: float, upper: float, value: float) -> VariableStatus:
-    """The bound that a column which is not basic stands at."""
+    """The bound that a column which is not basic stands at: the nearer one, or the lower of equals.
+
+    Args:
+        lower: In CLP's units; -INFINITE: there is none.
+        upper: The same; INFINITE: there is none. Without any bound the column is FREE.
+        value: Of the column, in CLP's units.
+    """
     if lower <= -INFINITE:
         return VariableStatus.FREE if upper >= INFINITE else VariableStatus.AT_UPPER
     is_near_upper = abs(upper - value) < abs(value - lower)

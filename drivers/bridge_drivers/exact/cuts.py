@@ -4,7 +4,8 @@ Where the objective is a multiple of a spacing at all integer points, a split di
 comes first: in the branch that is better than the cutoff all leaves are Farkas leaves, and the
 other branch is proved at once. Below it come cuts in rounds: of the relaxation's optimum those that
 it violates most. A clique cut is kept where a small tree refutes its violators, that is, proves
-that there is no point beyond it. An MIR cut has its proof with it (`mir`).
+that there is no point beyond it. An MIR cut has its proof with it (`mir`). `portfolio` runs a
+`RootCutLoop` bit by bit beside its searches, and writes each tree by `CertificateWithCuts`.
 """
 
 from __future__ import annotations
@@ -55,7 +56,10 @@ class ProvedCut(NamedTuple):
     """A cut at the root: the columns times `coefficients` are at most `rhs`.
 
     Attributes:
-        proof: The tree that refutes its violators, or that of an MIR cut.
+        coefficients: By column, those that are not 0.
+        proof: Of a clique cut the tree that there is no point at least `rhs + 1`; of an MIR cut the
+            two leaves of its split disjunction. It may rest on the file's rows, on that of the
+            objective and on cuts before this one.
     """
 
     coefficients: Dict[int, int]
@@ -63,16 +67,17 @@ class ProvedCut(NamedTuple):
     proof: Union[Tree, MIRProof]
 
     def row(self) -> Row:
+        """The cut as a row that is added to a program."""
         return Row(self.coefficients, None, self.rhs)
 
     def trees(self) -> Sequence[Tree]:
-        """The trees of its proof."""
+        """The trees of its proof, as far as rows are used there: of an MIR cut its two leaves."""
         if isinstance(self.proof, MIRProof):
             return [self.proof.low], [self.proof.high]
         return (self.proof,)
 
     def nodes(self) -> int:
-        """The nodes of its text: the cut, and its proof."""
+        """How many nodes of a certificate it takes: the cut itself, and its proof."""
         return 1 + (3 if isinstance(self.proof, MIRProof) else node_count(self.proof))
 
 
@@ -80,12 +85,16 @@ class ObjectiveCutoff:
     """A value that no point is to be better than, as the search below the objective's row has it.
 
     Attributes:
-        value: Minimised; None: there is to be no point.
+        value: Minimised, with the constant, and on the lattice where there is one; None: there is
+            to be no point.
         lattice: Of the objective; None where it has none.
-        rhs: The greatest multiple of the lattice's spacing that is better, where there is one.
-        cutoff: For the leaves below the row: to exceed the next better value on the lattice will
-            do, since the row itself excludes that.
-        rows: The row `better than the value`, where there is a lattice.
+        rhs: The greatest k for which the constant and k times the lattice's spacing are better; 0
+            without a lattice or a value.
+        cutoff: For the leaves. Below the row to exceed the next better value on the lattice will
+            do, since each point below it is at least as good as that; without a lattice they reach
+            the value.
+        rows: Where there is a lattice, the row `better than the value` alone: the lattice's form is
+            at most `rhs`.
     """
 
     def __init__(
@@ -94,6 +103,12 @@ class ObjectiveCutoff:
         value: Optional[Fraction],
         lattice: Optional[ObjectiveLattice],
     ) -> None:
+        """
+        Args:
+            program: Whose constant the objective has.
+            value: As the attribute.
+            lattice: That of the program.
+        """
         self.value = value
         self.lattice = lattice
         self.rhs = 0
@@ -107,12 +122,19 @@ class ObjectiveCutoff:
             self.rows = [Row(lattice.coefficients, None, self.rhs)]
 
     def open_rows(self) -> List[Row]:
-        """The rows without their bound, so that a relaxation's bound is seen beyond it."""
+        """`rows` without their bound, in the places of the search.
+
+        So the relaxation's dual bound can come beyond the value.
+        """
         return [Row(row.coefficients) for row in self.rows]
 
 
 class Relaxed(NamedTuple):
-    """A relaxation that has an optimum, with the program that it is of."""
+    """A relaxation that was solved to its optimum, with the program that it is of.
+
+    Attributes:
+        program: Behind the file's rows it has the objective's, without its bound, and the cuts.
+    """
 
     program: IntegerProgram
     clp: Clp
@@ -122,8 +144,11 @@ class RootCutLoop:
     """Makes cuts for a cutoff, as long as the deadline says.
 
     Attributes:
-        dual_bound: Of the last relaxation, minimised.
-        cutoff: In doubles; infinite where there is to be no point.
+        program: Without the objective's row and cuts.
+        dual_bound: Of the last relaxation that had an optimum, minimised, with the constant, in
+            doubles; minus infinity before.
+        cutoff: That of the leaves, minimised, in doubles; infinite where there is to be no point.
+        most_stalled: How many rounds in a row may gain next to nothing.
     """
 
     def __init__(
@@ -138,7 +163,10 @@ class RootCutLoop:
         self.most_stalled = MOST_STALLED_ROUNDS if any(program.costs) else MOST_ROUNDS
 
     def solve_relaxation(self, cuts: Sequence[ProvedCut]) -> Optional[Relaxed]:
-        """The relaxation under these cuts; None where it has no optimum."""
+        """The relaxation under these cuts, solved; None where it has no optimum.
+
+        Sets `dual_bound`, and tells the progress of it where that is due.
+        """
         program = self.program.with_rows(
             [*self.objective.open_rows(), *(cut.row() for cut in cuts)]
         )
@@ -151,11 +179,17 @@ class RootCutLoop:
         return Relaxed(program, clp)
 
     def is_over(self, until: float) -> bool:
-        """Whether that second of the deadline has passed, or an interrupt came."""
+        """Whether that second of the deadline, as `spent` counts, has passed, or an interrupt came."""
         return self.deadline.spent() > until or self.deadline.is_interrupted
 
     def closed_share(self, root_bound: float) -> float:
-        """The share of the gap between a bound without cuts and the cutoff that is closed now."""
+        """The share of the gap between a bound without cuts and the cutoff that is closed now.
+
+        It is 0 where the cutoff is infinite, and may exceed 1.
+
+        Args:
+            root_bound: The dual bound without cuts, minimised.
+        """
         return (self.dual_bound - root_bound) / max(self.cutoff - root_bound, CLOSED_GAP)
 
     def run(
@@ -163,12 +197,16 @@ class RootCutLoop:
     ) -> List[ProvedCut]:
         """Rounds of cuts, until they close the gap, gain no more, or the time is over.
 
+        A round that closes less than LEAST_GAP_SHARE of the gap is stalled: after more than
+        `most_stalled` in a row, or a round without a new cut, there is no other one.
+
         Args:
-            before: Cuts that are there already.
-            until: A second of the deadline.
+            kinds: Of the cuts that are looked for.
+            before: Cuts that are there already; the list stays as it is.
+            until: The second of the deadline at which it ends.
 
         Returns:
-            Those of before, and new ones below them.
+            Those of before, and new ones below them: each is proved by those before it.
         """
         cuts = list(before)
         seen = {_key(cut.coefficients, cut.rhs) for cut in cuts}
@@ -194,7 +232,15 @@ class RootCutLoop:
         seen: set[object],
         until: float,
     ) -> None:
-        """Adds to `cuts` what one round proves, without cuts that are nearly parallel."""
+        """Adds to `cuts` what one round proves, without cuts that are nearly parallel.
+
+        Args:
+            relaxed: That of the cuts so far: its optimum is what new ones are to cut off.
+            cuts: All so far.
+            seen: Keys of all cuts that were tried in any round, to which those of this one are
+                added: none is tried twice.
+            until: The second of the deadline at which it ends.
+        """
         used: List[Mapping[int, int]] = []
         for cut in self._candidates(relaxed, kinds, used, until):
             if self.is_over(until):
@@ -215,9 +261,14 @@ class RootCutLoop:
         used: Sequence[object],
         until: float,
     ) -> Iterator[Cut]:
-        """Clique cuts, then MIR cuts, of each the deepest first.
+        """The cuts that a round may try: clique cuts, then MIR cuts, of each the deepest first.
 
-        As long as fewer than one round may have are in `used`, to which the caller adds.
+        It goes on until one round has as many of a kind as it may have.
+
+        Args:
+            used: The cuts that are proved in this round, to which the caller adds while it takes
+                candidates; only how many they are is looked at.
+            until: The second of the deadline at which no more MIR cuts are looked for.
         """
         x = relaxed.clp.values()
         cliques: List[CliqueCut] = []
@@ -238,9 +289,13 @@ class RootCutLoop:
             yield mir_cut
 
     def _prove(self, cut: Cut, cuts: List[ProvedCut], program: IntegerProgram) -> bool:
-        """Adds a cut to the others, below those that it is proved by; whether it is proved.
+        """Proves a cut by those so far and adds it to them; whether that was done.
 
-        The smaller cuts of a clique stay as far as they are proved.
+        Before a clique cut its smaller ones are proved and added, which stay where it fails.
+
+        Args:
+            cuts: All so far, of this round too.
+            program: Of the relaxation that the cut was found by, whose rows an MIR proof uses.
         """
         if isinstance(cut, MIRCut):
             proof = prove_mir_cut(program, cut)
@@ -259,7 +314,12 @@ class RootCutLoop:
         return True
 
     def refute_violators(self, cut: CliqueCut, cuts: Sequence[ProvedCut]) -> Optional[Tree]:
-        """A small tree that no point better than the cutoff is beyond the cut; None without one."""
+        """A tree that no point better than the cutoff is beyond the cut, that is, at least rhs + 1.
+
+        It stands below the objective's row and the cuts so far, and all its leaves are Farkas
+        multipliers. None where it needs more than REFUTING_NODES or REFUTING_SECONDS, or there is
+        such a point.
+        """
         rows = [
             *self.objective.rows,
             *(known.row() for known in cuts),
@@ -281,27 +341,36 @@ class RootCutLoop:
 
 
 def _key(coefficients: Mapping[int, int], rhs: int) -> object:
+    """What is equal for equal cuts alone, and can stand in a set."""
     return (tuple(sorted(coefficients.items())), rhs)
 
 
 def _efficacy(cut: CliqueCut) -> float:
-    """The distance of the relaxation's optimum from the cut."""
+    """The Euclidean distance of the relaxation's optimum from the cut, which it violates."""
     return cut.violation / math.hypot(*cut.coefficients.values())
 
 
 def is_parallel(a: Mapping[int, int], b: Mapping[int, int]) -> bool:
-    """Whether the squared cosine of the angle between two cuts is above LARGEST_COSINE_SQUARED."""
+    """Whether the squared cosine of the angle between two cuts is above LARGEST_COSINE_SQUARED.
+
+    Args:
+        a: Coefficients of one cut by column.
+        b: Those of the other.
+    """
     product = sum(v * b.get(j, 0) for j, v in a.items())
     sizes = sum(v * v for v in a.values()), sum(v * v for v in b.values())
     return product**2 > LARGEST_COSINE_SQUARED * sizes[0] * sizes[1]
 
 
 class CertificateWithCuts:
-    """The text of a tree below cuts. Cuts that nothing uses are left out.
+    """The certificate's text from the tree on, of a tree below cuts.
+
+    Cuts that neither the tree nor the proof of a kept cut uses are left out.
 
     Attributes:
         numbers: By row of the searched program, the number that a cut has in the text.
-        kept: By that number, the cuts of the text.
+        kept: By that number, the cuts of the text, in their order.
+        end: The next number: that of the first disjunction in the tree.
     """
 
     def __init__(
@@ -312,10 +381,14 @@ class CertificateWithCuts:
         cuts: Sequence[ProvedCut],
         tree: Tree,
     ) -> None:
-        """
+        """Decides which cuts are kept.
+
         Args:
             program: The file's.
             searched: That of the tree: with the objective's row, the cuts and the forms.
+            objective: What the tree proves.
+            cuts: All that the tree stands below, in the order of their rows.
+            tree: The whole of it.
         """
         self.program = program
         self.searched = searched
@@ -332,13 +405,17 @@ class CertificateWithCuts:
         self.end = first + len(kept)
 
     def nodes(self) -> int:
-        """The nodes of the text."""
+        """How many nodes the text has: of the objective's split and leaf, the cuts and the tree."""
         of_objective = 2 * len(self.objective.rows)
         return node_count(self.tree) + of_objective + sum(cut.nodes() for cut in self.kept.values())
 
     def lines(self) -> Iterator[str]:
-        """The objective's split, the cuts, the tree, the trees of clique cuts from the deepest, and
-        the leaf of the objective's other branch."""
+        """The lines of all nodes, without ends, for a certificate whose claim stands before them.
+
+        The objective's split, the cuts, the tree, the trees of clique cuts from the deepest, and
+        the leaf of the objective's other branch. A clique cut is a split disjunction, whose upper
+        branch its own tree refutes; an MIR cut has its proof behind it.
+        """
         lattice = self.objective.lattice
         if lattice is not None:
             yield from certificate.disjunction_lines(lattice.coefficients, self.objective.rhs)
@@ -362,5 +439,12 @@ class CertificateWithCuts:
     def _tree_lines(
         self, tree: Tree, first: int, objective_row: Optional[ObjectiveRow] = None
     ) -> Iterator[str]:
+        """The lines of one tree of the text.
+
+        Args:
+            first: The number of the first row that it may add.
+            objective_row: Above it, where its leaves may be duals; None: all are Farkas
+                multipliers, or there is no such row.
+        """
         naming = RowNumbering(self.numbers, first, self.program.sign, objective_row)
         return certificate.tree_lines(self.searched, tree, naming)
