@@ -1,4 +1,7 @@
-"""What is counted of a program, and by how much a point misses it, in doubles: for messages alone."""
+"""What is counted of a program, and by how much a point misses it, in doubles.
+
+All of it is for messages, reports and the code of an answer; no claim rests on it.
+"""
 
 from __future__ import annotations
 
@@ -31,7 +34,7 @@ class Residual(NamedTuple):
 
     Attributes:
         times_tolerance: `relative` over what counts as satisfied there.
-        relative: As a share of the row's largest term, at the values or at 1.
+        relative: As a share of the row's largest term, at the values or at 1; not negative.
         name: Of the row or column in the text; empty where nothing is missed.
     """
 
@@ -48,10 +51,13 @@ NO_RESIDUAL = Residual(0.0, 0.0, "")
 
 
 def residual_of(relative: float, name: str, *, has_integers: bool = False) -> Residual:
-    """One that is known.
+    """A residual whose share of the largest term is known.
 
     Args:
-        has_integers: All terms are those of integer columns at whole values.
+        relative: That share.
+        name: What is missed, as a message calls it.
+        has_integers: All terms are those of integer columns at whole values, so that the tolerance
+            is only for rounding.
     """
     tolerance = TOLERANCE_OF_INTEGERS if has_integers else TOLERANCE
     return Residual(relative / tolerance, relative, name)
@@ -60,12 +66,14 @@ def residual_of(relative: float, name: str, *, has_integers: bool = False) -> Re
 def worst_residual(
     program: LinearProgram, values: Sequence[str], *, wants_integers: bool = False
 ) -> Residual:
-    """The residual that counts most.
+    """The residual that is the greatest multiple of its tolerance; NO_RESIDUAL where none is
+    missed.
 
     Args:
+        program: As solvers read it.
         values: By column, as decimals.
-        wants_integers: Integer columns are meant to have whole values, and rows of such ones are
-            to be met but for rounding.
+        wants_integers: Integer columns are meant to have whole values, and rows of such ones are to
+            be met but for rounding.
     """
     found = residuals(program, values, wants_integers=wants_integers)
     return max(found, default=NO_RESIDUAL)
@@ -74,7 +82,16 @@ def worst_residual(
 def residuals(
     program: LinearProgram, values: Sequence[str], *, wants_integers: bool = False
 ) -> Iterator[Residual]:
-    """Of each row and bound that is missed. A bound is its own largest term, and 0 is measured by 1."""
+    """The residual of each row, and of each column's bound, that the values miss; in doubles.
+
+    A row is missed by a share of its largest term, where a column below 1 in size counts as 1, and
+    of the missed side. A bound is its own largest term, and a bound of 0 is measured by 1 at least.
+
+    Args:
+        program: As solvers read it.
+        values: By column, as decimals.
+        wants_integers: As of `worst_residual`.
+    """
     x = list(map(float, values))
     is_whole = [False] * len(x)
     if wants_integers:
@@ -95,6 +112,13 @@ def residuals(
 def _row_residuals(
     program: LinearProgram, x: Sequence[float], is_whole: Sequence[bool]
 ) -> Iterator[Residual]:
+    """The residual of each row that is missed at `x`.
+
+    Args:
+        x: By column.
+        is_whole: By column whether it counts as one with a whole value; a row of such ones alone
+            has the tolerance of integers.
+    """
     activities = program.matrix.activities_in_doubles(x)
     bounds = zip(activities, program.row_lower.tolist(), program.row_upper.tolist())
     missed = [
@@ -122,7 +146,16 @@ def _row_residuals(
 def _residual(
     name: str, value: float, lower: float, upper: float, size: float, *, has_integers: bool
 ) -> Residual:
-    """Of a value between bounds, of which the one that it misses counts for its size too."""
+    """The residual of a value: what it misses, over its size or the missed bound's if larger.
+
+    Args:
+        name: Of the row or column.
+        value: Of the row's activity, or of the column.
+        lower: Minus infinity for none.
+        upper: Infinity for none.
+        size: Of the largest term, above 0.
+        has_integers: As of `residual_of`.
+    """
     by = max(lower - value, value - upper, 0.0)
     if not by:
         return NO_RESIDUAL
@@ -144,9 +177,13 @@ class LostNumber(NamedTuple):
 
 @dataclass
 class Statistics:
-    """What is counted of a program.
+    """What is counted of a program, as it is made; `pipeline.statistics` tells it.
+
+    Numbers are exact, and sizes are without their sign. The column z and its row, which stand for a
+    nonlinear objective, count as the objective.
 
     Attributes:
+        program: As `bridge export` or `bridge mps` wrote it.
         columns: How many of each kind in COLUMN_KINDS, and how many are free or fixed.
         row_kinds: L, G or E by the name of each row, without the one that ties z.
         two_sided: How many rows have a range.
@@ -154,8 +191,8 @@ class Statistics:
         costs: How many of the objective are not 0.
         infinite: How many sides and bounds are at least 1e20.
         epigraph_factor: By what the row that ties z is multiplied; None: there is none.
-        sizes: Of coefficients of rows, each size once.
-        cost_sizes: Of coefficients of the objective.
+        sizes: Of coefficients of rows, each number of the text once.
+        cost_sizes: Of coefficients of the objective, of each column one.
         sides: Of right-hand sides and ranges, but for 0.
         lost: The numbers that doubles do not hold.
     """
@@ -182,20 +219,24 @@ class Statistics:
         self._count_bounds()
 
     def rows_of(self, kind: str) -> int:
-        """How many rows are L, G or E."""
+        """How many rows are of a kind: L, G or E."""
         return sum(found == kind for found in self.row_kinds.values())
 
     @property
     def two_sided(self) -> int:
+        """How many rows have a range."""
         return len(self.program.written.ranges)
 
     @cached_property
     def constant(self) -> str:
-        """The constant of the objective."""
+        """The constant of the objective, as a whole number or a fraction `p/q`."""
         return str(-Fraction(self.program.objective_rhs))
 
     def _count_entries(self) -> None:
-        """Those of rows, and those of the objective, which may stand in the row zdef."""
+        """Counts the coefficients of rows and of the objective, which may stand in the row zdef.
+
+        Sets `entries`, `sizes`, `costs`, `cost_sizes` and `epigraph_factor`, and adds to `lost`.
+        """
         written, names = self.program.written, self.program.names
         numbers = [parsed(text) for text in written.numbers]
         is_cost = written.entry_rows == OBJECTIVE
@@ -212,7 +253,12 @@ class Statistics:
         self._find_lost([number.is_held for number in numbers])
 
     def _count_costs(self, columns: Sequence[int], sizes: Sequence[Exact]) -> None:
-        """Those of the columns, by entry; the last column may be z."""
+        """Counts the objective's coefficients; that of z, the last column, is `epigraph_factor`.
+
+        Args:
+            columns: By entry of the objective its column.
+            sizes: By entry its coefficient without its sign.
+        """
         z = self.program.n - 1 if self.program.names.has_epigraph_column else -1
         for column, size in zip(columns, sizes):
             if column == z:
@@ -222,7 +268,11 @@ class Statistics:
                 self.cost_sizes.append(size)
 
     def _find_lost(self, is_held: Sequence[bool]) -> None:
-        """Entries whose numbers doubles do not hold."""
+        """Adds the entries whose numbers doubles do not hold to `lost`, placed as `ROW COLUMN`.
+
+        Args:
+            is_held: By place in `numbers` of the text.
+        """
         written, names = self.program.written, self.program.names
         rows = [*names.rows, "", written.objective.decode()]  # N rows stand last
         entries = np.flatnonzero(~np.array(is_held, dtype=bool)[written.entry_numbers])
@@ -233,6 +283,10 @@ class Statistics:
             self.lost.append(LostNumber(f"{row} {column}", text))
 
     def _count_sides(self) -> None:
+        """Counts right-hand sides and ranges in `sides` and `infinite`, and adds to `lost`.
+
+        The objective's side is only looked at for `lost`.
+        """
         written = self.program.written
         rows = [*self.program.names.rows, "", written.objective.decode()]
         for row, text in [*written.rhs.items(), *written.ranges.items()]:
@@ -242,6 +296,10 @@ class Statistics:
                 self.infinite += _size(value) >= INFINITE
 
     def _count_bounds(self) -> None:
+        """Counts infinite bounds of columns, and adds those that doubles do not hold to `lost`.
+
+        A column whose two bounds are the same number counts once.
+        """
         written = self.program.written
         pairs = Counter(zip(written.lower, written.upper))
         lost = set()
@@ -258,7 +316,12 @@ class Statistics:
             self.lost += [LostNumber(name, text.decode()) for text in distinct if text in lost]
 
     def _number(self, place: str, text: bytes) -> Exact:
-        """The value of a number, which is lost where doubles do not hold it."""
+        """The exact value of a number, which is added to `lost` where doubles do not hold it.
+
+        Args:
+            place: Where it stands, as of `LostNumber`.
+            text: As it is written.
+        """
         number = parsed(text)
         if not number.is_held:
             self.lost.append(LostNumber(place, text.decode()))
@@ -274,7 +337,7 @@ class ParsedNumber(NamedTuple):
 
 @lru_cache(maxsize=1 << 16)
 def parsed(text: bytes) -> ParsedNumber:
-    """It is remembered: most numbers stand many times."""
+    """The exact value of a number of the text. It is remembered: most numbers stand many times."""
     value = read_fraction(text)
     exact: Exact = value.numerator if value.denominator == 1 else value
     return ParsedNumber(exact, is_double_or_shortest(value))
@@ -285,18 +348,27 @@ def _size(value: Exact) -> Exact:
 
 
 def is_double_or_shortest(value: Fraction) -> bool:
-    """Whether a number is a double, or the shortest decimal of the double that is read for it."""
+    """Whether a solver that reads doubles reads this number as the model means it.
+
+    That is so where it is a double, or the shortest decimal of the nearest double.
+    """
     double = nearest_double(value)
     return double is not None and value in (Fraction(double), Fraction(repr(double)))
 
 
 def range_in_doubles(sizes: Collection[Exact]) -> Range:
-    """The least and the greatest, None beyond doubles; nothing where there are none."""
+    """The least and the greatest of some sizes; nothing where there are none.
+
+    Each is None where it is beyond the range of doubles.
+    """
     return [nearest_double(end) for end in (min(sizes), max(sizes))] if sizes else []
 
 
 def _columns_by_kind(program: LinearProgram) -> Dict[str, int]:
-    """Without the column that stands for the objective."""
+    """How many columns are of each kind in COLUMN_KINDS, and how many `free` or `fixed` besides.
+
+    A binary column is an integer one between 0 and 1. The column z is not counted.
+    """
     count = program.n - program.names.has_epigraph_column
     lower, upper = (texts[:count] for texts in program.written.bounds())
     pairs = Counter(zip(program.is_integer, lower, upper))

@@ -1,4 +1,4 @@
-"""A program that is given in arrays, as the bytes of an MPS file."""
+"""A program that is given in arrays, as the bytes of an MPS file, for the calls of the package."""
 
 from __future__ import annotations
 
@@ -12,7 +12,13 @@ from ..formats.numbers import exact_decimal
 
 
 class _Sides(NamedTuple):
-    """How a row stands in an MPS file: its letter, its side, and its range; "" where it has none."""
+    """How a row stands in an MPS file, in decimals.
+
+    Attributes:
+        letter: N, L, G or E.
+        side: What stands in RHS; "" of a row N.
+        range: What stands in RANGES; "" where it has none.
+    """
 
     letter: str
     side: str
@@ -31,27 +37,28 @@ def model_of_arrays(
     maximise: bool = False,
     constant: float = 0.0,
 ) -> bytes:
-    """A program in arrays as a model that the calls of this package take.
+    """A program in arrays as a model that the calls of this package take: an MPS file in ASCII.
 
-    It is the least (or the greatest) value of `costs` times x and the constant, where `rows` times x is
-    between `row_lower` and `row_upper` and x is between `lower` and `upper`. Each double is written as
-    its shortest decimal; what is judged is the program of these decimals. Columns are called x0, x1, ..,
-    rows c0, c1, ..
+    It is the least (or the greatest) value of `costs` times x and the constant, where `rows` times
+    x is between `row_lower` and `row_upper` and x is between `lower` and `upper`. Each double is
+    written as its shortest decimal; what is judged is the program of these decimals. Columns are
+    called x0, x1, .., rows c0, c1, ..
 
     Args:
-        costs: One for each column.
+        costs: One for each column, in the program's own sense.
         rows: A matrix with a line for each row, an array or one of scipy.sparse; None for no rows.
         row_lower: Of the rows, or one for all; minus infinity for none.
         row_upper: Of the rows, or one for all; infinity for none.
-        lower: Of the columns, or one for all.
-        upper: Of the columns, or one for all.
+        lower: Of the columns, or one for all; minus infinity for none.
+        upper: Of the columns, or one for all; infinity for none.
         integer: Which columns are integer ones, or whether all are.
         maximise: The greatest value is asked for.
         constant: Of the objective.
 
     Raises:
-        ValueError: The sizes do not fit each other, a number is none, or the two sides of a row are too
-            far apart for a decimal of their distance.
+        ValueError: The sizes do not fit each other, a number is none, a row's lower side is above
+            its upper one, or the two sides of a row are too far apart for a decimal of their
+            distance.
     """
     cost_list = _doubles(costs, None)
     count = len(cost_list)
@@ -81,7 +88,15 @@ def model_of_arrays(
 
 
 def _doubles(given: Any, count: int | None) -> List[float]:
-    """Numbers, one for each of so many places; one number stands for all of them."""
+    """Numbers as a list of doubles, one for each of `count` places; one number stands for all.
+
+    Args:
+        given: A number, a list, or an array of one dimension.
+        count: None: as many as are given, and one number alone is none.
+
+    Raises:
+        ValueError: There are not so many, they have more dimensions, or one is not a number (NaN).
+    """
     array = numpy.asarray(given, dtype=float)
     if count is not None:
         array = numpy.broadcast_to(array, (count,))
@@ -92,7 +107,15 @@ def _doubles(given: Any, count: int | None) -> List[float]:
 
 
 def _matrix(rows: Any, columns: int) -> Any:
-    """The matrix by columns, with `shape`, `indptr`, `indices` and `data`."""
+    """The coefficients by column, with `shape`, `indptr`, `indices` and `data` as of scipy's CSC.
+
+    Args:
+        rows: An array of two dimensions, a matrix of scipy.sparse, or None for no rows.
+        columns: How many there are.
+
+    Raises:
+        ValueError: It has another count of columns, or is no matrix.
+    """
     if hasattr(rows, "tocsc"):
         matrix = rows.tocsc()
     else:
@@ -103,9 +126,21 @@ def _matrix(rows: Any, columns: int) -> Any:
 
 
 class _Columns:
-    """An array by columns, in the attributes of a matrix of scipy.sparse."""
+    """An array of two dimensions by columns, in the attributes of a CSC matrix of scipy.sparse.
+
+    Attributes:
+        shape: The counts of rows and columns.
+        indptr: The entries of column j are those from `indptr[j]` as far as `indptr[j + 1]`.
+        indices: By entry its row.
+        data: By entry its coefficient, which is not 0.
+    """
 
     def __init__(self, rows: Any) -> None:
+        """Of a list of lists or an array.
+
+        Raises:
+            ValueError: It has not two dimensions.
+        """
         array = numpy.asarray(rows, dtype=float)
         if array.ndim != 2:
             raise ValueError("a matrix is wanted")
@@ -117,7 +152,18 @@ class _Columns:
 
 
 def _column_lines(costs: Sequence[float], matrix: Any, marks: Sequence[bool]) -> Iterator[str]:
-    """The entries by columns, integer ones between markers."""
+    """The lines of COLUMNS: by column its cost, also where it is 0, and its coefficients.
+
+    Integer columns stand between markers.
+
+    Args:
+        costs: By column, in the program's own sense.
+        matrix: As `_matrix` gives it.
+        marks: By column whether it is integer.
+
+    Raises:
+        ValueError: A number is infinite or none.
+    """
     starts: List[int] = matrix.indptr.tolist()
     places: List[int] = matrix.indices.tolist()
     numbers: List[float] = matrix.data.tolist()
@@ -137,6 +183,12 @@ def _column_lines(costs: Sequence[float], matrix: Any, marks: Sequence[bool]) ->
 
 
 def _sides(low: float, high: float) -> _Sides:
+    """How a row with these two bounds stands in an MPS file; a range is their exact distance.
+
+    Raises:
+        ValueError: The lower bound is above the upper one, both are the same infinity, or the
+            decimal of their distance is longer than the proved program holds.
+    """
     if low == high:
         return _Sides("E", _decimal(low), "")
     if low == -math.inf and high == math.inf:
@@ -154,6 +206,12 @@ def _sides(low: float, high: float) -> _Sides:
 
 
 def _bound_lines(column: str, low: float, high: float) -> List[str]:
+    """The lines of a column in BOUNDS: FX or FR, else one for each end.
+
+    Raises:
+        ValueError: Both ends are the same infinity, or the lower one is plus infinity (or the upper
+            one minus infinity).
+    """
     if low == high:
         return [f" FX BND {column} {_decimal(low)}"]
     if low == -math.inf and high == math.inf:
@@ -164,7 +222,11 @@ def _bound_lines(column: str, low: float, high: float) -> List[str]:
 
 
 def _decimal(value: float) -> str:
-    """The shortest decimal of a double."""
+    """The shortest decimal of a double, as `repr` writes it; an exponent has no plus sign.
+
+    Raises:
+        ValueError: It is infinite, or not a number.
+    """
     if not math.isfinite(value):
         raise ValueError(f"{value} is no number of a program")
     return repr(float(value)).replace("e+", "e")

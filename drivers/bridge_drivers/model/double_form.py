@@ -29,7 +29,12 @@ class SparseColumns(NamedTuple):
     values: Any
 
     def with_units(self, units: Iterable[Tuple[int, float]]) -> SparseColumns:
-        """The same with one column more for each row and its coefficient there."""
+        """The same with one column more for each of the pairs, which has one entry.
+
+        Args:
+            units: Of each new column the row of its entry, and its coefficient there: a slack's,
+                say.
+        """
         starts = array("i", self.starts)
         rows = array("i", self.rows)
         values = array("d", self.values)
@@ -40,7 +45,11 @@ class SparseColumns(NamedTuple):
         return SparseColumns(starts, rows, values)
 
     def over(self, scales: Sequence[float]) -> SparseColumns:
-        """The same, each column divided by its scale."""
+        """The same, the coefficients of each column divided by its scale; itself where all are 1.
+
+        Args:
+            scales: By column, none of them 0.
+        """
         if all(scale == 1 for scale in scales):
             return self
         each = (
@@ -52,7 +61,16 @@ class SparseColumns(NamedTuple):
 
 
 class DoubleProgram(NamedTuple):
-    """A linear program in doubles, minimised, without a constant; None: there is no such bound."""
+    """A linear program in doubles, minimised, without a constant, as CLP gets it.
+
+    Attributes:
+        lower: Lower bounds by column; None: there is no such bound.
+        upper: Upper bounds by column.
+        costs: By column.
+        row_lower: Lower bounds by row.
+        row_upper: Upper bounds by row.
+        columns: The coefficients of rows.
+    """
 
     lower: List[DoubleBound]
     upper: List[DoubleBound]
@@ -63,7 +81,12 @@ class DoubleProgram(NamedTuple):
 
 
 def columns_of(matrix: SparseRows, scale: int) -> SparseColumns:
-    """Coefficients divided by their scale; those of a column stand in the order of rows."""
+    """The coefficients in doubles, each rounded once, those of a column in the order of rows.
+
+    Args:
+        matrix: In whole numbers over `scale`.
+        scale: What each coefficient is divided by.
+    """
     if not matrix.is_large:
         return _columns_of_lists(matrix, scale)
     entries = matrix.entries
@@ -79,7 +102,7 @@ def columns_of(matrix: SparseRows, scale: int) -> SparseColumns:
 
 
 def _columns_of_lists(matrix: SparseRows, scale: int) -> SparseColumns:
-    """The same of few entries."""
+    """As `columns_of`, for a matrix of few entries, which is walked through in lists."""
     starts = array("i", [0])
     rows = array("i")
     values = array("d")

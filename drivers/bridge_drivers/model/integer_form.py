@@ -36,10 +36,10 @@ Point = List[Fraction]
 
 
 class Row(NamedTuple):
-    """A row that the search adds.
+    """A row that the search adds to a program: a cut, or a branch.
 
     Attributes:
-        coefficients: By column, whole, those that are not 0.
+        coefficients: By column, whole, not over a scale, those that are not 0.
         lower: Whole, not over a scale; None: the row has no lower bound.
         upper: The same from above.
     """
@@ -57,7 +57,7 @@ class Box(NamedTuple):
 
 
 class ObjectiveLattice(NamedTuple):
-    """At points whose integer columns are whole, the objective is its constant and a whole multiple.
+    """Which values the objective can have, minimised, where all columns with a cost are integer.
 
     Attributes:
         spacing: The objective less its constant is always a whole multiple of this.
@@ -103,6 +103,7 @@ class IntegerProgram:
     bound_scale: int
 
     def __post_init__(self) -> None:
+        """Sets `sign`, `n`, `m` and `constraint_count` of a program without added rows."""
         self.sign = -1 if self.maximise else 1
         self.n = len(self.lower)
         self.m = len(self.row_lower)
@@ -110,9 +111,10 @@ class IntegerProgram:
 
     @staticmethod
     def of(program: LinearProgram, factors: Mapping[int, int], constraints: int) -> IntegerProgram:
-        """Of a program as solvers read it.
+        """Of a program as solvers read it, each kind of number over the least scale that it has.
 
         Args:
+            program: As `bridge export` wrote it, or in its own numbering of a file of MPS.
             factors: What `export` multiplied rows by, by their own numbers, where that is not 1.
             constraints: How many rows the file has. Those without bounds are not exported, and have
                 no coefficients here.
@@ -124,32 +126,36 @@ class IntegerProgram:
 
     @cached_property
     def cost_fractions(self) -> list[Fraction]:
-        """By column."""
+        """The costs by column, minimised."""
         known = {c: Fraction(c, self.cost_scale) for c in set(self.costs)}
         return list(map(known.__getitem__, self.costs))
 
     @cached_property
     def constant_fraction(self) -> Fraction:
-        """Of the objective."""
+        """The constant of the objective, minimised."""
         return Fraction(self.constant, self.cost_scale)
 
     @property
     def rows(self) -> Pairs:
-        """By row its columns and coefficients over `row_scale`."""
+        """By row its pairs of column and coefficient, which is over `row_scale`."""
         return self.matrix.rows
 
     @property
     def by_column(self) -> Pairs:
-        """By column its rows and coefficients over `row_scale`."""
+        """By column its pairs of row and coefficient, which is over `row_scale`."""
         return self.matrix.columns
 
     @cached_property
     def columns(self) -> SparseColumns:
-        """The coefficients in doubles."""
+        """The coefficients of rows in doubles, by column, for CLP."""
         return columns_of(self.matrix, self.row_scale)
 
     def with_rows(self, added: Iterable[Row]) -> IntegerProgram:
-        """The same program with more rows at its end."""
+        """The same program with more rows at its end, such as cuts; `constraint_count` stays.
+
+        Args:
+            added: Whole, not over a scale; they are brought to the scales of the program.
+        """
         new = copy.copy(self)
         new.row_lower = self.row_lower[:]
         new.row_upper = self.row_upper[:]
@@ -164,14 +170,23 @@ class IntegerProgram:
         return new
 
     def with_bounds(self, lower: Bounds, upper: Bounds) -> IntegerProgram:
-        """The same program with other bounds of columns, over the same scale."""
+        """The same program with other bounds of columns, as of a node.
+
+        Args:
+            lower: By column, over `bound_scale`; the list is kept, not copied.
+            upper: The same.
+        """
         new = copy.copy(self)
         new.lower = lower
         new.upper = upper
         return new
 
     def with_integers(self, is_integer: list[bool]) -> IntegerProgram:
-        """The same program, but that other columns are integer."""
+        """The same program, but that other columns are integer.
+
+        Args:
+            is_integer: By column.
+        """
         new = copy.copy(self)
         new.is_integer = is_integer
         return new
@@ -179,7 +194,12 @@ class IntegerProgram:
     def with_costs(
         self, costs: Sequence[Fraction], constant: Fraction = Fraction(0)
     ) -> IntegerProgram:
-        """The same program with another objective, minimised."""
+        """The same program with another objective, minimised, over the least scale of its own.
+
+        Args:
+            costs: By column.
+            constant: Of the objective.
+        """
         new = copy.copy(self)
         new.cost_fractions = list(costs)
         new.constant_fraction = constant
@@ -189,7 +209,11 @@ class IntegerProgram:
         return new
 
     def with_integer_costs(self, costs: Mapping[int, int]) -> IntegerProgram:
-        """The same program with an objective of whole coefficients by column, minimised."""
+        """The same program with an objective of whole coefficients, minimised; `cost_scale` is 1.
+
+        Args:
+            costs: By column, those that are not 0. There is no constant.
+        """
         new = self.with_costs([])
         new.cost_fractions = [Fraction(0)] * self.n
         new.costs = [0] * self.n
@@ -199,14 +223,16 @@ class IntegerProgram:
         return new
 
     def without_costs(self) -> IntegerProgram:
-        """The same program whose objective is its constant."""
+        """The same program with all costs 0; its constant stays."""
         return self.with_costs([Fraction(0)] * self.n, self.constant_fraction)
 
     def recession_cone(self) -> IntegerProgram:
-        """The directions in which the program has no end, cut off.
+        """A program of the directions in which this one has no end, cut off at size 1.
 
-        A direction keeps to each bound that is there as to 0. So that there is an optimum, each
-        column is at most 1 in size, and costs are over the greatest of them.
+        A direction keeps to each bound of a column or row that is there as to 0. So that there is
+        an optimum, each column is at most 1 in size, and costs are over the greatest of them. No
+        column is integer, and there is no constant. A point of a value below 0 is a ray, along
+        which the relaxation is unbounded if it is feasible.
         """
         new = self.with_bounds(
             [-1 if bound is None else 0 for bound in self.lower],
@@ -220,11 +246,19 @@ class IntegerProgram:
         return new.with_costs([c / greatest for c in self.cost_fractions])
 
     def bound_as_double(self, bound: Bound) -> float | None:
-        """A bound of a column or row, which stands over `bound_scale`."""
+        """The double nearest to a bound of a column or row; None where there is none.
+
+        Args:
+            bound: Over `bound_scale`.
+        """
         return None if bound is None else bound / self.bound_scale
 
     def in_doubles(self, *, has_costs: bool = True) -> DoubleProgram:
-        """The relaxation, without the constant; with all costs 0 where it `has_costs` not."""
+        """The relaxation in doubles, without the constant, for CLP.
+
+        Args:
+            has_costs: False: all costs are 0.
+        """
         return DoubleProgram(
             [self.bound_as_double(bound) for bound in self.lower],
             [self.bound_as_double(bound) for bound in self.upper],
@@ -235,7 +269,12 @@ class IntegerProgram:
         )
 
     def is_feasible(self, x: Point) -> bool:
-        """Whether a point has whole values where it must, and keeps to all bounds and rows."""
+        """Whether a point has whole values where it must, and keeps to all bounds and rows:
+        exactly.
+
+        Args:
+            x: By column.
+        """
         if any(v.denominator != 1 for v, is_integer in zip(x, self.is_integer) if is_integer):
             return False
         numerators, denominator = over_common_denominator(x)
@@ -245,32 +284,47 @@ class IntegerProgram:
         )
 
     def violated_bounds(self, values: Sequence[int], denominator: int) -> Iterator[Tuple[int, int]]:
-        """Each column that misses one of its bounds, with that bound.
+        """Each column that misses one of its bounds, with that bound, over `bound_scale`.
 
         Args:
             values: By column, over `denominator` times `bound_scale`.
+            denominator: A common denominator of the point, above 0.
         """
         return violations(values, self.lower, self.upper, denominator)
 
     def violated_rows(self, values: Sequence[int], denominator: int) -> Iterator[Tuple[int, int]]:
-        """Each row that misses one of its bounds, with that bound; `values` as above."""
+        """Each row that misses one of its bounds, with that bound, over `bound_scale`.
+
+        Args:
+            values: By column, over `denominator` times `bound_scale`.
+            denominator: A common denominator of the point, above 0.
+        """
         activities = self.matrix.activities(values)
         return violations(activities, self.row_lower, self.row_upper, denominator * self.row_scale)
 
     def value(self, x: Point) -> Fraction:
-        """The objective at a point, minimised, with its constant."""
+        """The objective at a point, minimised, with its constant.
+
+        Times `sign` it is the file's own value.
+
+        Args:
+            x: By column.
+        """
         used = [(c, v) for c, v in zip(self.costs, x) if c and v]
         numerators, denominator = over_common_denominator([v for _, v in used])
         total = sum([c * v for (c, _), v in zip(used, numerators)])
         return self.constant_fraction + Fraction(total, denominator * self.cost_scale)
 
     def finite_bounds(self, column: int) -> list[Fraction]:
-        """Those that a column has: none, one, or the lower and the upper one."""
+        """The bounds that a column has, as fractions: none, one, or the lower and the upper one."""
         both = (self.lower[column], self.upper[column])
         return [Fraction(bound, self.bound_scale) for bound in both if bound is not None]
 
     def objective_lattice(self) -> ObjectiveLattice | None:
-        """None: the objective is its constant, or a column with a cost is not integer."""
+        """The lattice of the objective's values at points whose integer columns are whole.
+
+        None: the objective is its constant, or a column with a cost is not integer.
+        """
         size = gcd(*self.costs)
         if not size or any(c and not whole for c, whole in zip(self.costs, self.is_integer)):
             return None
@@ -280,20 +334,27 @@ class IntegerProgram:
 
 
 def over_common_denominator(x: Sequence[Fraction]) -> tuple[list[int], int]:
-    """Numerators of fractions over their least common denominator, and that denominator."""
+    """Numerators of fractions, in their order, over their least common denominator, and this."""
     denominator = lcm(1, *{v.denominator for v in x})
     return [v.numerator * (denominator // v.denominator) for v in x], denominator
 
 
 def scaled(bound: Bound, factor: int) -> Bound:
-    """None where there is no bound."""
+    """A bound times a factor; None, no bound, stays None."""
     return None if bound is None else bound * factor
 
 
 def violations(
     values: Sequence[int], lower: Bounds, upper: Bounds, denominator: int
 ) -> Iterator[Tuple[int, int]]:
-    """Each place whose value, over `denominator`, misses one of its bounds, with that bound."""
+    """Each place whose value misses one of its bounds, with the missed bound as it is given.
+
+    Args:
+        values: By place, over `denominator` times the scale of the bounds.
+        lower: By place; None for no bound.
+        upper: The same.
+        denominator: Above 0.
+    """
     for place, (v, low, high) in enumerate(zip(values, lower, upper)):
         if low is not None and v < low * denominator:
             yield place, low
@@ -302,7 +363,7 @@ def violations(
 
 
 class _Costs(NamedTuple):
-    """An objective, minimised, over a scale."""
+    """An objective, minimised: costs by column and a constant, over a scale."""
 
     costs: List[int]
     constant: int
@@ -310,7 +371,7 @@ class _Costs(NamedTuple):
 
 
 class _RowsOfFile(NamedTuple):
-    """Coefficients of the file's own rows, over a scale."""
+    """Coefficients of the file's own rows, in their own numbers, over a scale."""
 
     matrix: SparseRows
     scale: int
@@ -328,12 +389,22 @@ class _WholeNumbers:
     """Turns the numbers of a program into whole ones, each kind over the least scale that it has.
 
     Attributes:
+        given: The program.
+        written: Its numbers as they are written.
+        factors: What rows are multiplied by in the text, by their own numbers, where that is not 1.
+        m: How many rows the file has.
+        n: How many columns the file has, without z.
         places: By row of the text its own number in the file; -1 of the row that ties z.
     """
 
     def __init__(
         self, program: LinearProgram, factors: Mapping[int, int], constraints: int
     ) -> None:
+        """Of a program; the arguments are those of `IntegerProgram.of`.
+
+        Raises:
+            UnsupportedModel: The columns are not x0, x1, .. in this order.
+        """
         names = program.names
         self.given = program
         self.written = program.written
@@ -345,6 +416,7 @@ class _WholeNumbers:
         self.places = [-1 if name == EPIGRAPH_ROW else int(name[1:]) for name in names.rows]
 
     def program(self) -> IntegerProgram:
+        """The whole program, each kind of its numbers turned for itself."""
         objective = self._costs()
         matrix, row_scale = self._matrix()
         bounds = self._bounds()
@@ -364,7 +436,12 @@ class _WholeNumbers:
         )
 
     def _costs(self) -> _Costs:
-        """The objective's own row, or the row zdef, which says: factor (objective - z) = 0."""
+        """The objective, minimised, without z.
+
+        It stands in its own row; or, where the program has the column z, in the row zdef, which
+        says that a factor times (objective - z) is 0: the coefficient of z is minus that factor, by
+        which all is divided.
+        """
         written = self.written
         is_tied = self.given.names.has_epigraph_column
         row = self.places.index(-1) if is_tied else OBJECTIVE
@@ -385,7 +462,11 @@ class _WholeNumbers:
         return _Costs(costs, -side, scale)
 
     def _matrix(self) -> _RowsOfFile:
-        """Each number that differs is turned once, and once more for each factor of its rows."""
+        """The coefficients of the file's own rows, their factors divided out, over their least
+        scale.
+
+        Each number that differs is turned once, and once more for each factor of its rows.
+        """
         written = self.written
         row_of = np.array([*self.places, -1, -1], np.int32)  # N rows stand last
         rows = row_of[written.entry_rows]
@@ -414,7 +495,11 @@ class _WholeNumbers:
         return _RowsOfFile(matrix, scale)
 
     def _bounds(self) -> _AllBounds:
-        """Rows are divided by their factors, so that the scale may be a multiple of those."""
+        """The bounds of columns and of the file's own rows, over their least common scale.
+
+        Rows are divided by their factors, so that the scale may be a multiple of those. A row that
+        was not exported has no bounds.
+        """
         lower, upper = (texts[: self.n] for texts in self.written.bounds())
         texts = list({*lower, *upper} - {b""})
         numerators, denominator = decimals_over_common_denominator(texts)
@@ -437,7 +522,12 @@ class _WholeNumbers:
         )
 
     def _by_own_number(self, bounds: Bounds, scale: int) -> dict[int, int]:
-        """Bounds of the text's rows by their own number, times a scale and over their factor."""
+        """Bounds of the text's rows by their own number in the file, divided by the row's factor.
+
+        Args:
+            bounds: By row of the text, None where there is none.
+            scale: What each is multiplied by; a multiple of all factors.
+        """
         return {
             i: bound * (scale // self.factors.get(i, 1))
             for i, bound in zip(self.places, bounds)

@@ -42,7 +42,12 @@ Doubles = NDArray[np.float64]
 
 
 class ObjectiveTerms:
-    """An objective at a point, term by term in doubles: for messages, and never for a claim."""
+    """An objective at a point, term by term in doubles: for messages, and never for a claim.
+
+    Attributes:
+        constant: Of the objective.
+        terms: Each coefficient times its column's value, in the file's own sense.
+    """
 
     def __init__(self, constant: float, terms: Sequence[float]) -> None:
         self.constant = constant
@@ -50,6 +55,7 @@ class ObjectiveTerms:
 
     @cached_property
     def value(self) -> float:
+        """The objective at the point, in the file's own sense: the sum rounded once."""
         return math.fsum([self.constant, *self.terms])
 
     @cached_property
@@ -79,6 +85,7 @@ class NameTable:
 
     @staticmethod
     def of(written: MpsColumns) -> NameTable:
+        """The names of a text that was read."""
         return NameTable(_decoded(written.rows), _decoded(written.columns))
 
     @property
@@ -107,6 +114,12 @@ class LinearProgram:
         own_names: Optional[NameLists] = None,
         notes: Sequence[str] = (),
     ) -> None:
+        """Of a text and what was read of it; `of` and `of_named` make both fit.
+
+        Args:
+            own_names: None: the text is of `bridge export`, and names are those of files beside the
+                model.
+        """
         self.text = text
         self.written = written
         self.names = NameTable.of(written)
@@ -116,12 +129,19 @@ class LinearProgram:
 
     @staticmethod
     def of(text: bytes) -> LinearProgram:
-        """Of a text that `bridge export` wrote."""
+        """Of a text that `bridge export` wrote.
+
+        The names that the user knows are not in it: whoever has them sets `own_names`.
+        """
         return LinearProgram(text, read_mps(text))
 
     @staticmethod
     def of_named(text: bytes) -> LinearProgram:
-        """Of a text in the written form with names of its own, as `bridge mps` writes it."""
+        """Of a text in the written form with names of its own, as `bridge mps` writes it.
+
+        Its text is written once more with the columns x0, x1, .. and the rows c0, c1, ..; the names
+        that it had are `own_names`, the objective's behind those of the rows.
+        """
         read = read_mps(text)
         own = canonical(read)
         rows = [*read.rows, read.objective] if read.objective else read.rows
@@ -136,17 +156,17 @@ class LinearProgram:
 
     @property
     def m(self) -> int:
-        """The count of rows."""
+        """The count of rows in the text, without N rows; `zdef` is one of them."""
         return len(self.names.rows)
 
     @property
     def n(self) -> int:
-        """The count of columns."""
+        """The count of columns in the text; `z` is one of them."""
         return len(self.names.columns)
 
     @property
     def is_integer(self) -> List[bool]:
-        """By column."""
+        """By column whether it is integer."""
         return self.written.is_integer
 
     @cached_property
@@ -156,19 +176,22 @@ class LinearProgram:
 
     @property
     def objective_rhs(self) -> str:
-        """Minus the constant of the objective, as it is written."""
+        """The right-hand side of the objective's row, as it is written: minus the constant."""
         return self.written.rhs.get(OBJECTIVE, b"0").decode()
 
     @cached_property
     def cost_texts(self) -> Dict[int, bytes]:
-        """The coefficients of the objective by column, as they are written, those that are not 0."""
+        """By column its coefficient in the objective, as it is written, without the `0`s."""
         numbers = self.written.numbers
         entries = self._objective
         pairs = zip(entries.columns.tolist(), entries.numbers.tolist())
         return {column: numbers[k] for column, k in pairs if numbers[k] != b"0"}
 
     def has_objective(self) -> bool:
-        """Whether the objective is anything but the constant 0."""
+        """Whether the objective is anything but the constant 0.
+
+        Decides by texts: `0.0` counts as something.
+        """
         return self.objective_rhs != "0" or bool(self.cost_texts)
 
     def has_empty_domain(self) -> bool:
@@ -184,7 +207,11 @@ class LinearProgram:
         )
 
     def count_of_huge(self, size: float) -> int:
-        """How many right-hand sides, ranges and bounds are at least of that size."""
+        """How many right-hand sides, ranges and bounds are at least of that size, in doubles.
+
+        A column that is fixed at such a value counts once; the side of the objective does not
+        count.
+        """
         written = self.written
         texts = [text for row, text in written.rhs.items() if row != OBJECTIVE]
         texts += written.ranges.values()
@@ -194,9 +221,10 @@ class LinearProgram:
         return sum(map(is_huge.__getitem__, texts)) if any(is_huge.values()) else 0
 
     def with_rounded_bounds(self) -> LinearProgram:
-        """The bounds of integer columns rounded inwards, since GLPK takes no others.
+        """The same program with the bounds of integer columns rounded inwards, for solvers.
 
-        The program itself where none changes. Only the text is another one.
+        GLPK takes no others. Only `text` is another one; the numbers of `written` stay. The program
+        itself where no bound changes.
         """
         start = self.text.find(BOUNDS_HEADING)
         if not self.integer_count or start < 0:
@@ -217,7 +245,7 @@ class LinearProgram:
 
     @cached_property
     def matrix(self) -> SparseRows:
-        """The coefficients of rows in doubles."""
+        """The coefficients of rows in doubles, those that are not 0."""
         written = self.written
         entries = Entries(written.entry_rows, written.entry_columns, written.entry_numbers)
         no_objectives = [*range(self.m), -1, -1]
@@ -225,7 +253,7 @@ class LinearProgram:
 
     @cached_property
     def costs(self) -> DoubleCosts:
-        """The objective in doubles."""
+        """The objective in doubles, in the file's own sense, without its constant."""
         entries = self._objective
         values = np.array(self._doubles, dtype=np.float64)[entries.numbers]
         used = values != 0
@@ -254,14 +282,18 @@ class LinearProgram:
         return np.array([math.inf if v is None else v / denominator for v in upper], np.float64)
 
     def objective_terms(self, x: Sequence[float]) -> ObjectiveTerms:
-        """The objective at values of the columns."""
+        """The objective at a point, in the file's own sense.
+
+        Args:
+            x: The values of all columns.
+        """
         columns, values = self.costs
         terms = values * np.array(x, dtype=np.float64)[columns]
         return ObjectiveTerms(-float(self.objective_rhs), terms.tolist())
 
     @cached_property
     def _objective(self) -> Entries:
-        """The entries of the objective."""
+        """The entries of the objective's row, those of 0 too; their `rows` are all OBJECTIVE."""
         chosen = np.flatnonzero(self.written.entry_rows == OBJECTIVE)
         written = self.written
         return Entries(
@@ -272,31 +304,45 @@ class LinearProgram:
 
     @cached_property
     def _bounds(self) -> Tuple[List[bytes], List[bytes]]:
-        """Of columns, as they are written; empty where there is none."""
+        """Lower and upper bounds of columns, as they are written; empty where there is none."""
         return self.written.bounds()
 
     @cached_property
     def _row_bounds(self) -> RowBounds:
+        """The exact bounds of rows, in whole numbers over one denominator."""
         return self.written.row_bounds()
 
     @cached_property
     def _doubles(self) -> List[float]:
-        """Each number of entries."""
+        """The doubles nearest to the numbers of `written.numbers`, by place."""
         return list(map(float, self.written.numbers))
 
 
 def _decoded(names: List[bytes]) -> List[str]:
-    """Names hold no ends of lines, so that all of them are decoded at once."""
+    """The names as texts. They hold no ends of lines, so that all of them are decoded at once."""
     return b"\n".join(names).decode().split("\n") if names else []
 
 
 def _in_doubles(texts: List[bytes], infinity: float) -> Doubles:
+    """Bounds by column in doubles.
+
+    Args:
+        texts: As they are written, empty where there is none.
+        infinity: What stands for none, with its sign.
+    """
     known = {text: float(text) for text in set(texts) if text}
     return np.array([known.get(text, infinity) for text in texts], np.float64)
 
 
 def _rounded_bound(line: bytes, integers: set[bytes]) -> bytes:
-    """A line ` LO SET COLUMN VALUE` or ` UP ..` of an integer column, its value rounded inwards."""
+    """A line of BOUNDS, without its end, whose value is rounded inwards if its column is integer.
+
+    Only lines ` LO SET COLUMN VALUE` and ` UP ..` with a value that is not written as a whole
+    number change: up for LO, down for UP.
+
+    Args:
+        integers: The names of the integer columns.
+    """
     words = line.split(b" ")
     if len(words) != 5 or words[1] not in (b"LO", b"UP") or words[3] not in integers:
         return line
@@ -308,7 +354,7 @@ def _rounded_bound(line: bytes, integers: set[bytes]) -> bytes:
 
 
 def _notes_of(read: MpsColumns) -> List[str]:
-    """On columns whose bounds other readers take otherwise."""
+    """Notes on columns whose bounds other readers of MPS take otherwise: one for each such rule."""
     columns = zip(read.columns, read.is_integer, read.lower, read.upper)
     without_bounds = [
         _shown(name)
@@ -331,4 +377,5 @@ def _notes_of(read: MpsColumns) -> List[str]:
 
 
 def _shown(name: bytes) -> str:
+    """A name of the file as messages tell it: with escaped controls."""
     return one_line(name.decode("utf-8", "surrogateescape"))

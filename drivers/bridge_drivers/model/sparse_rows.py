@@ -4,6 +4,8 @@ A matrix of many entries is kept in arrays of NumPy, where the k-th entry is `ta
 row `rows[k]` and column `columns[k]`; one of few entries is walked through in lists, which is
 quicker. Both give the same numbers: sums of doubles are made in the order of the entries of a row,
 sums of whole numbers are exact.
+
+`SparseRows` is the matrix of `LinearProgram` (doubles) and of `IntegerProgram` (whole numbers).
 """
 
 from __future__ import annotations
@@ -24,7 +26,13 @@ Pairs = List[List[Tuple[int, int]]]  # by row its columns and coefficients, or b
 
 
 class Entries(NamedTuple):
-    """Entries by place, those of a column together and columns in their order."""
+    """The places of entries, those of a column together and columns in their order.
+
+    Attributes:
+        rows: By entry its row.
+        columns: By entry its column.
+        numbers: By entry the place of its coefficient in a table.
+    """
 
     rows: Places
     columns: Places
@@ -32,7 +40,10 @@ class Entries(NamedTuple):
 
 
 class SparseRows:
-    """Coefficients of `m` rows in `n` columns.
+    """Coefficients of `m` rows in `n` columns, none of them 0.
+
+    It is not changed once it is made. Each of its forms (`rows`, `columns`, `entries`) is made of
+    the one that was given when it is first asked for.
 
     Attributes:
         m: The count of rows.
@@ -40,7 +51,15 @@ class SparseRows:
     """
 
     def __init__(self, m: int, n: int, entries: Entries, table: Sequence[Any]) -> None:
-        """Of entries, and a table in which each coefficient stands once."""
+        """Of entries.
+
+        Args:
+            m: The count of rows.
+            n: The count of columns.
+            entries: Their places. Where there are few, a list of a row has its columns in this
+                order.
+            table: The coefficients that `entries.numbers` names, whole numbers or doubles.
+        """
         self.m = m
         self.n = n
         self._entries: Optional[Entries] = entries
@@ -48,7 +67,7 @@ class SparseRows:
 
     @staticmethod
     def of_lists(n: int, rows: Pairs) -> SparseRows:
-        """Of the columns and coefficients of each row."""
+        """Of lists: by row its pairs of column and coefficient. They are kept, not copied."""
         made = SparseRows(len(rows), n, Entries(*[np.zeros(0, np.int32)] * 3), [])
         made._entries = None
         vars(made)["rows"] = rows
@@ -56,7 +75,7 @@ class SparseRows:
 
     @cached_property
     def rows(self) -> Pairs:
-        """By row its columns and coefficients."""
+        """By row its pairs of column and coefficient; made of entries, columns in their order."""
         entries = self.entries
         order = np.argsort(entries.rows, kind="stable")
         values = map(self.table.__getitem__, entries.numbers[order].tolist())
@@ -66,7 +85,7 @@ class SparseRows:
 
     @cached_property
     def columns(self) -> Pairs:
-        """By column its rows and coefficients."""
+        """By column its pairs of row and coefficient, rows in their order."""
         columns: Pairs = [[] for _ in range(self.n)]
         for i, row in enumerate(self.rows):
             for j, a in row:
@@ -75,19 +94,23 @@ class SparseRows:
 
     @property
     def entries(self) -> Entries:
-        """The same by place."""
+        """The places of entries, whose coefficients are in `table`.
+
+        They are made of the lists where those were given.
+        """
         if self._entries is None:
             self._entries = self._entries_of_lists()
         return self._entries
 
     @property
     def table(self) -> Sequence[Any]:
-        """The coefficients that entries name."""
+        """The coefficients that `entries.numbers` names."""
         if self._entries is None:
             self._entries = self._entries_of_lists()
         return self._table
 
     def _entries_of_lists(self) -> Entries:
+        """The entries of the lists that were given; sets `_table`, with a coefficient for each."""
         rows = np.repeat(np.arange(self.m, dtype=np.int32), self.lengths)
         columns = np.array([j for row in self.rows for j, _ in row], dtype=np.int32)
         self._table = [a for row in self.rows for _, a in row]
@@ -112,7 +135,7 @@ class SparseRows:
         return self.count > LARGE
 
     def column(self, j: int) -> List[Tuple[int, int]]:
-        """The rows and coefficients of one column."""
+        """The pairs of row and coefficient of column `j`, rows in their order."""
         if not self.is_large:
             return self.columns[j]
         entries = self.entries
@@ -122,7 +145,12 @@ class SparseRows:
         return sorted(zip(entries.rows[start:stop].tolist(), values))
 
     def activities(self, x: Sequence[int]) -> List[int]:
-        """Of whole numbers, exactly: by row the sum of its coefficients times the columns' values."""
+        """By row the sum of its coefficients times the columns' values, exactly.
+
+        Args:
+            x: By column, whole numbers, negative ones too. Over a denominator, so are the sums, and
+                over the coefficients' own scale besides.
+        """
         if not self.is_large:
             return [sum([a * x[j] for j, a in row]) for row in self.rows]
         return self._exact_sums(self.entries.rows, self.m, self.entries.columns, x)
@@ -130,10 +158,15 @@ class SparseRows:
     def minus_combination(
         self, values: List[int], multipliers: Mapping[int, int], factor: int = 1
     ) -> List[int]:
-        """Values by column less `factor` times the combination of rows; the list given is lost.
+        """Values by column less `factor` times the combination of rows, exactly.
+
+        Reduced costs are made so: of costs and duals.
 
         Args:
+            values: By column, whole numbers over the scale of `factor` times multipliers times
+                coefficients. The list is lost: it may be changed, and be the answer.
             multipliers: By row, those that are not 0.
+            factor: What brings the combination to the scale of `values`.
         """
         if not multipliers:
             return values
@@ -150,21 +183,38 @@ class SparseRows:
         return [v - factor * w for v, w in zip(values, sums)]
 
     def weighted_norms(self, weights: Sequence[int]) -> List[int]:
-        """By row the sum of the sizes of its coefficients times the weights of columns, exactly."""
+        """By row the sum of the sizes of its coefficients times the weights of columns, exactly.
+
+        Args:
+            weights: By column, whole numbers.
+        """
         if not self.is_large:
             return [sum([abs(a) * weights[j] for j, a in row]) for row in self.rows]
         sizes = SparseRows(self.m, self.n, self.entries, list(map(abs, self.table)))
         return sizes.activities(weights)
 
     def activities_in_doubles(self, x: Sequence[float]) -> List[float]:
-        """By row the sum of its coefficients times the columns' values, in the order of entries."""
+        """By row the sum of its coefficients times the columns' values, in doubles.
+
+        Terms are added from the left in the order of entries, each sum rounded, so that a large
+        matrix and a small one give the same bits.
+
+        Args:
+            x: By column.
+        """
         if not self.is_large:
             return [_sum_in_order([a * x[j] for j, a in row]) for row in self.rows]
         terms = self._doubles() * np.array(x)[self.entries.columns]
         return list(np.bincount(self.entries.rows, terms, self.m).tolist())
 
     def largest_terms(self, sizes: Sequence[float]) -> List[float]:
-        """By row the greatest coefficient, in size, times the size of its column; of doubles."""
+        """By row the greatest size of a coefficient times its column's size, in doubles.
+
+        It is 0 of a row without coefficients.
+
+        Args:
+            sizes: By column, not negative.
+        """
         if not self.is_large:
             return [max([abs(a) * sizes[j] for j, a in row], default=0.0) for row in self.rows]
         found = np.zeros(self.m)
@@ -173,7 +223,14 @@ class SparseRows:
         return list(found.tolist())
 
     def submatrix(self, rows: Sequence[int], columns: Sequence[int]) -> Pairs:
-        """These rows in these columns, each column by its place among the chosen ones."""
+        """These rows in these columns: by chosen row its pairs of column and coefficient.
+
+        Each column is told by its place among the chosen ones. For the exact system of a basis.
+
+        Args:
+            rows: Numbers of rows, none twice, in the wanted order.
+            columns: Numbers of columns, none twice, in the wanted order.
+        """
         if not self.is_large:
             place = {j: k for k, j in enumerate(columns)}
             return [[(place[j], a) for j, a in self.rows[i] if j in place] for i in rows]
@@ -187,14 +244,21 @@ class SparseRows:
         return found
 
     def _doubles(self) -> NDArray[np.float64]:
-        """By entry its coefficient."""
+        """By entry its coefficient as a double, rounded to the nearest."""
         return np.array(self.table, dtype=np.float64)[self.entries.numbers]
 
     def _exact_sums(self, to: Places, count: int, at: Places, x: Sequence[int]) -> List[int]:
-        """Sums by `to` of coefficients times `x[at]`.
+        """By place of `to` the exact sum of coefficients times `x[at]`, over entries.
 
         Both are taken digit by digit, in digits so short that the sum of the products of digits is
         a whole number of at most 53 bits, which doubles add exactly.
+
+        Args:
+            to: By entry its row, or its column.
+            count: How many rows or columns there are.
+            at: By entry its column, or its row: the place of `x` that its coefficient is multiplied
+                by.
+            x: Whole numbers, by what `at` names.
         """
         most_terms = int(np.bincount(to).max(initial=1))
         room = DOUBLE_BITS - self._digit_bits - most_terms.bit_length()
@@ -214,12 +278,12 @@ class SparseRows:
 
     @cached_property
     def _digit_bits(self) -> int:
-        """The bits of a digit of a coefficient."""
+        """The bits of a digit of a coefficient: those of the widest one, at most DIGIT_BITS."""
         return min(max((int(v).bit_length() for v in self.table), default=1), DIGIT_BITS)
 
     @cached_property
     def _digits(self) -> List[Tuple[int, NDArray[np.float64]]]:
-        """By entry the digits of its coefficient, with what they are shifted by."""
+        """The coefficients by digits (`split_digits`): each with its shift, in doubles by entry."""
         numbers = self.entries.numbers
         return [
             (shift, np.array(digits, dtype=np.float64)[numbers])
@@ -228,7 +292,7 @@ class SparseRows:
 
 
 def _sum_in_order(terms: List[float]) -> float:
-    """From the left, each sum rounded; Python's `sum` rounds less from 3.12 on."""
+    """The sum from the left, each rounded, as NumPy's; Python's `sum` rounds less from 3.12 on."""
     total = 0.0
     for term in terms:
         total += term
@@ -236,7 +300,7 @@ def _sum_in_order(terms: List[float]) -> float:
 
 
 def _places_of(chosen: Sequence[int], count: int) -> NDArray[np.int64]:
-    """Of each of `count` its place among the chosen ones, -1 of the others."""
+    """By number below `count` its place among the chosen ones; -1 of the others."""
     found = np.full(count, -1)
     found[list(chosen)] = np.arange(len(chosen))
     return found
@@ -245,8 +309,13 @@ def _places_of(chosen: Sequence[int], count: int) -> NDArray[np.int64]:
 def split_digits(x: Sequence[int], bits: int) -> Iterator[Tuple[int, List[int]]]:
     """Whole numbers as sums of digits of so many bits, shifted to the left.
 
+    Args:
+        x: Whole numbers of any size; a negative one is told in two's complement.
+        bits: Of a digit, at least 1.
+
     Yields:
-        The shift, and one digit of each number. All but the last digits are not negative.
+        The shift in bits, and one digit of each number. All but the last digits are from 0 to
+            2^bits - 1; the last ones may be negative, and not below -2^bits.
     """
     mask = (1 << bits) - 1
     rest, shift = list(x), 0
@@ -263,7 +332,10 @@ def sparse_rows_of(
     """The entries that are not 0 in rows that have a place; the others are left out.
 
     Args:
+        m: The count of rows of the answer.
+        n: The count of columns.
         entries: Their rows may be negative: those of N rows stand at the end of `places`.
+        table: The coefficients that `entries.numbers` names; it is kept, and not copied.
         places: By row its place among the `m` rows; negative: it has none.
     """
     rows = np.array(places, np.int32)[entries.rows]
