@@ -1,8 +1,13 @@
-"""The calls of this package. They are functions of values: no argument is taken apart as a command's word.
+"""The calls of this package.
 
-Each answers a `Report`, or raises a `BridgeError` that has one. A model is a path, as commands take it,
-the bytes of such a file, or a program. No file is written but those that are named; nothing is printed;
-the log `bridge_drivers` tells what goes on.
+They are functions of values: no argument is taken apart as a command's word.
+
+Each answers a `Report`, or raises a `BridgeError` that has one. A model is a path, as commands take
+it, the bytes of such a file, or a program. No file is written but those that are named; nothing is
+printed; the log `bridge_drivers` tells what goes on.
+
+Users call `solve`, `certify`, `verify`, `explain` and `figures`; the commands and `pulp_solver` use
+the rest, too.
 """
 
 from __future__ import annotations
@@ -77,17 +82,22 @@ def solve(
 
     Args:
         model: A path, the bytes of a file, or a program.
-        solver: The name of the solver.
+        solver: The name of the solver: `cbc`, `highs` ..
         prove: A certificate that the answer is optimal is searched for.
-        certificate: Where an accepted certificate is kept.
-        timelim: Seconds of the solver, and again of the search.
+        certificate: Where an accepted certificate is kept; None for nowhere.
+        timelim: Seconds of the solver, and again of the search; else the search alone has 60.
         program: The solver's program, where it is not on the PATH.
-        on_progress: Is called with what is known while the run goes on, such as incumbents and bounds.
+        on_progress: Is called with what is known while the run goes on, such as incumbents and
+            bounds.
         options: Further options of the driver, by name.
 
+    Returns:
+        With AMPL's code, the claim that is proved, and the message in `lines`.
+
     Raises:
-        BridgeError: There is no answer. A file that is named and cannot be written is a `FileFault`.
-        SolveInterrupted: Ctrl-C ended the run.
+        BridgeError: There is no answer. A file that is named and cannot be written is a
+            `FileFault`.
+        SolveInterrupted: Ctrl-C ended the run; it has the report of what was found by then.
     """
     given = {"prove": prove, "certificate": certificate, "timelim": timelim, "solver": program}
     call = ReportedCall("bridge-" + solver)
@@ -111,15 +121,15 @@ def certify(
     Args:
         model: A path, the bytes of a file, or a program.
         solver: The name of the solver.
-        certificate: Where the certificate is kept.
-        timelim: Seconds of the solver, and again of the search: 60 where nothing is said, 0 for no limit.
+        certificate: Where the certificate is kept; None for nowhere.
+        timelim: Seconds of the solver, and again of the search: 60 where nothing is said; 0 leaves
+            the solver without a limit.
         program: The solver's program, where it is not on the PATH.
         on_progress: As of `solve`.
         options: Further options of the driver, by name.
 
     Raises:
-        BridgeError: As of `solve`.
-        SolveInterrupted: As of `solve`.
+        BridgeError, SolveInterrupted: As of `solve`.
     """
     given = {
         "prove": True,
@@ -165,12 +175,14 @@ def explain(
 ) -> Report:
     """What a certificate says, or where it fails; without one, whether the model is refused.
 
+    The status of the report is 1 where the certificate does not show its claim, else 0.
+
     Args:
         model: A path, the bytes of a file, or a program.
-        certificate: The path of the certificate.
-        objective: Without a certificate, the number of the objective that the model is asked for.
-        html: Where a page on the certificate is written.
-        svg: Where a picture of its tree is written.
+        certificate: The path of the certificate, packed or not.
+        objective: Without a certificate, which objective the model is asked for, from 0.
+        html: Where a page on the certificate is written; "" for nowhere.
+        svg: Where a picture of its tree is written; "" for nowhere.
         overwrite: What stands at those paths is replaced.
         bridge: The words that start the proved program, where it is elsewhere.
 
@@ -205,7 +217,10 @@ def explanation_report(
     overwrite: bool = False,
     bridge: str = "",
 ) -> Report:
-    """As `explain`; that a page cannot be written is told in the last line, and by the status 5."""
+    """As `explain`, for `nl-bridge explain`, which prints what is known all the same.
+
+    That a page cannot be written is no error: it is told in the last line, and by the status 5.
+    """
     call = ReportedCall(FRONT)
     with _opened_model(call, model, bridge) as opened:
         read = opened.model
@@ -231,7 +246,10 @@ def explanation_report(
 
 
 def _explanation(model: ReadModel, source: Source) -> Explanation:
-    """The verdict on a certificate, and what there is to say of it."""
+    """Has a certificate judged, and reads what there is to say of it.
+
+    Where the program cannot be had in whole numbers, its note says why.
+    """
     verdict = model.bridge.verify(model.path, source.path)
     with open(source.path, encoding="ascii") as lines:
         certificate = read_certificate(lines)
@@ -254,7 +272,9 @@ def _explanation(model: ReadModel, source: Source) -> Explanation:
 
 
 def _sum_of_judged(model: ReadModel) -> str | None:
-    """The SHA-256 of the text that was judged: the file's own, or that of the text made of it."""
+    """The SHA-256 of the text that was judged (the file's own, or one made of it); None where it is
+    not known.
+    """
     if model.path == model.source.path:
         return model.source.sha256()
     return sha256_of_file(model.path)
@@ -265,7 +285,7 @@ def figures(model: GivenModel, *, objective: int = 0, bridge: str = "") -> Repor
 
     Args:
         model: A path, the bytes of a file, or a program.
-        objective: The number of the objective that is looked at.
+        objective: The number of the objective that is looked at, from 0.
         bridge: The words that start the proved program, where it is elsewhere.
 
     Raises:
@@ -283,10 +303,11 @@ def solver_path(solver: str) -> str | None:
 
 
 def options_of_words(solver: str, words: Sequence[str]) -> Mapping[str, object]:
-    """Options for `solve`, of words `name=value` as a command takes them.
+    """Options for `solve`, of words `name=value` as a command takes them (and `pulp_solver` has
+    them).
 
     Raises:
-        WrongOption: There is no such driver or option, or a value is of another kind.
+        WrongOption: There is no such driver or option, or a text cannot be read as its value.
     """
     _check_solver(solver)
     return values_of_words(solver, words)
@@ -296,9 +317,9 @@ class OpenedModel(NamedTuple):
     """A model that was read, in one call.
 
     Attributes:
-        call: The call.
+        call: The call, which is told what is read.
         model: The model with the proved program's calls that are about it.
-        workspace: Room for files.
+        workspace: Room for files, while the block of `_opened_model` lasts.
     """
 
     call: ReportedCall
@@ -306,7 +327,7 @@ class OpenedModel(NamedTuple):
     workspace: Workspace
 
     def read_certificate(self, certificate: Path) -> Source:
-        """A certificate, packed or a stream as a model may be."""
+        """Opens a certificate, packed or a stream as a model may be, and has its name told."""
         source = read_source(os.fspath(certificate), self.workspace)
         self.call.read_certificate(source)
         self.model.bridge.file_names[source.path] = source.name
@@ -315,10 +336,13 @@ class OpenedModel(NamedTuple):
 
 @contextlib.contextmanager
 def opened_bridge(call: ReportedCall, bridge: str = "") -> Iterator[tuple[Bridge, Workspace]]:
-    """The proved program, and room for files, for a block whose errors become those of the call.
+    """A block with the proved program and room for files, whose errors leave it with the call's
+    report.
+
+    A refusal becomes the error of its exit status, an OSError a `FileFault` of reading.
 
     Args:
-        call: The call.
+        call: The call; its `program` is set.
         bridge: The words that start the proved program; "" looks for it.
     """
     with Workspace() as workspace:
@@ -341,6 +365,9 @@ def refusal_report(call_words: Sequence[str], words: Sequence[str]) -> Report:
     Args:
         call_words: The command and its words, with paths that it can read.
         words: The same as the user knows them.
+
+    Returns:
+        That it is not; of a text that does not hold, its own line on that, with status 1.
 
     Raises:
         BridgeError: It is, and why.
@@ -366,7 +393,15 @@ def report_of_outcome(
     wants_values: bool,
     wants_duals: bool,
 ) -> Report:
-    """The report of a run that has an outcome."""
+    """The report of a run that has an outcome; the call's certificate is that which was kept.
+
+    Args:
+        call: The call.
+        outcome: What the run found.
+        status: The exit status of the command.
+        wants_values: The values are in the report, where there are any.
+        wants_duals: So are duals and reduced costs.
+    """
     fields = {}
     if outcome.answer is not None:
         fields = _numbers_of(outcome.answer, wants_values=wants_values, wants_duals=wants_duals)
@@ -396,7 +431,10 @@ def _numbers_of(
 
 
 def report_of_error(call: ReportedCall, error: BridgeError, name: str) -> BridgeError:
-    """The error of a run, with its report, in which the command is named."""
+    """The error of a run, with a report in which the command's `name` stands before the text.
+
+    AMPL's code of it is in the report, but none after a signal.
+    """
     code = code_of_error(error)
     told = None if code == Code.STOPPED else int(code)
     return call.failed(error, prefix=f"{name}: ", code=told)
@@ -404,6 +442,7 @@ def report_of_error(call: ReportedCall, error: BridgeError, name: str) -> Bridge
 
 @contextlib.contextmanager
 def _opened_model(call: ReportedCall, model: GivenModel, bridge: str) -> Iterator[OpenedModel]:
+    """A block as that of `opened_bridge`, with a model that was read; the call is told of it."""
     if not is_in_memory(model):
         call.model = os.fspath(model)  # type: ignore[arg-type]
     with opened_bridge(call, bridge) as (program, workspace):
@@ -419,7 +458,19 @@ def _solved(
     given: Mapping[str, object],
     on_progress: OnProgress | None,
 ) -> Report:
-    """One run by values."""
+    """One run by values, as `solve`.
+
+    Args:
+        call: The call, of the command `bridge-SOLVER` or `bridge-certify`.
+        model: A path, the bytes of a file, or a program.
+        solver: The name of the solver.
+        given: Options by name; None counts as not given.
+        on_progress: As of `solve`.
+
+    Raises:
+        BridgeError: There is no answer. Other exceptions are a `DriverFault`, but with outlev=2.
+        SolveInterrupted: Ctrl-C was pressed; it has the report of the answer or of the error.
+    """
     try:
         _check_solver(solver)
         wanted = run_settings(solver, checked_values(solver, given))
@@ -451,12 +502,13 @@ def _solved(
 
 
 def _check_solver(solver: str) -> None:
+    """Raises WrongOption where there is no driver of that solver."""
     if solver not in SOLVERS:
         raise WrongOption(f"no driver of {solver}: {', '.join(SOLVERS)}")
 
 
 def _read(call: ReportedCall, model: GivenModel, workspace: Workspace) -> Source:
-    """The model's source, of which the report tells."""
+    """Opens the model; the call is told what the user calls it, also where it cannot be read."""
     if not is_in_memory(model):
         call.model = os.fspath(model)  # type: ignore[arg-type]
     source = read_given_model(model, workspace)
@@ -465,11 +517,7 @@ def _read(call: ReportedCall, model: GivenModel, workspace: Workspace) -> Source
 
 
 def _check_fit(source: Source, wanted: RunSettings, *, in_memory: bool) -> None:
-    """Whether what is wanted can be had of such a model.
-
-    Raises:
-        WrongOption: It cannot.
-    """
+    """Raises WrongOption where what is wanted cannot be had of such a model."""
     settings = wanted.settings
     if settings.mps_form and not source.is_mps:
         raise WrongOption(f"format is for MPS files, and {source.name} is none")
@@ -484,7 +532,14 @@ def _check_fit(source: Source, wanted: RunSettings, *, in_memory: bool) -> None:
 def _run(
     call: ReportedCall, source: Source, wanted: RunSettings, on_progress: OnProgress | None
 ) -> Report:
-    """Solves and writes what is wanted; a certificate that could not be kept is an error."""
+    """Solves and writes what is wanted. The call is told what starts the proved program.
+
+    The report of `bridge-certify` has the status 1 where nothing is proved.
+
+    Raises:
+        FileFault: A file cannot be written, or an accepted certificate could not be kept.
+        BridgeError: There is no outcome.
+    """
     settings = wanted.settings
     run = SolveRun(source, settings, Monitor(call.command, on_progress))
     try:
@@ -506,14 +561,15 @@ def _run(
 
 
 class _Keyboard:
-    """Whether Ctrl-C was pressed in a block."""
+    """Whether Ctrl-C was pressed in a block of `_keyboard`."""
 
     was_pressed = False
 
 
 @contextlib.contextmanager
 def _keyboard() -> Iterator[_Keyboard]:
-    """A block in which Ctrl-C ends what goes on in order: first the solver or the search, then the run.
+    """A block in which Ctrl-C ends what goes on in order: first the solver or the search, then the
+    run.
 
     Only where Python's own handler would raise KeyboardInterrupt, and in the main thread.
     """
@@ -524,6 +580,7 @@ def _keyboard() -> Iterator[_Keyboard]:
         return
 
     def press(number: int, frame: object) -> None:
+        """Notes that Ctrl-C was pressed, and passes it on to what is to receive it."""
         keyboard.was_pressed = True
         SIGNALS.receive(number, frame)
 

@@ -33,7 +33,7 @@ ARGUMENTS_BY_WORDS = (
 
 
 class Statuses(NamedTuple):
-    """PuLP's status of a problem, and of its solution."""
+    """PuLP's status of a problem (`LpStatus..`), and of its solution (`LpSolution..`)."""
 
     problem: int
     solution: int
@@ -72,15 +72,16 @@ class BridgeCmd(pulp.LpSolver_CMD):
         bridge: The words that start the proved program, where it is elsewhere.
         mip: Integer variables are integer ones; else they are relaxed.
         msg: The message is printed.
-        options: Options of the driver, each a word `name=value`.
-        timeLimit: Seconds of the solver, and again of a search.
+        options: Options of the driver, each a word `name=value`; they hold against the other
+            arguments.
+        timeLimit: Seconds of the solver, and again of a search; None for no limit of the solver.
         gapRel: The relative gap at which the search stops.
         threads: Of the solver's search.
         keepFiles: The MPS file and what is told, as JSON, stay in PuLP's folder.
         prove: A certificate that the answer is optimal is searched for.
 
     Attributes:
-        message: What is told of the last problem.
+        message: What is told of the last problem, the lines joined; "" before the first.
     """
 
     name = "BridgeCmd"
@@ -113,18 +114,27 @@ class BridgeCmd(pulp.LpSolver_CMD):
         self.message = ""
 
     def defaultPath(self) -> str:
+        """The name of the driver that PuLP takes where none is given."""
         return str(self.executableExtension("bridge-cbc"))
 
     def solver(self) -> str:
-        """The solver that the driver's name ends with."""
+        """The solver's name, with which the driver's ends: `cbc` of `/usr/bin/bridge-cbc`."""
         return os.path.basename(str(self.path)).removesuffix(".exe").removeprefix("bridge-")
 
     def available(self) -> str | bool:
-        """The path of the driver's solver, or False."""
+        """The path of the solver's program, or False where it is not installed; PuLP asks it."""
         return solver_path(self.solver()) or False
 
     def actualSolve(self, lp: pulp.LpProblem) -> int:
-        """Solves, and assigns values, duals and reduced costs where there are any; PuLP's status.
+        """Solves a problem, as PuLP's `problem.solve` wants it.
+
+        Sets `message`, and prints it with `msg`.
+
+        Values, slacks, duals and reduced costs are assigned to the problem where there are any, and
+        none of an older solution stay but values; its statuses are set.
+
+        Returns:
+            PuLP's status of the problem (`LpStatus..`).
 
         Raises:
             pulp.PulpSolverError: There is no outcome.
@@ -145,7 +155,13 @@ class BridgeCmd(pulp.LpSolver_CMD):
         return int(statuses.problem)
 
     def _solved(self, lp: pulp.LpProblem) -> tuple[Report, Mapping[str, str]]:
-        """What is told, and the names of the file by PuLP's."""
+        """What is told of a problem, and the names of the MPS file's variables by PuLP's.
+
+        Its files stay with `keepFiles` alone.
+
+        Raises:
+            pulp.PulpSolverError: There is no outcome.
+        """
         paths = dict(zip(FILES, self.create_tmp_files(self._free_name(lp.name), *FILES)))
         try:
             problem = write_problem(lp, paths["mps"])
@@ -159,7 +175,10 @@ class BridgeCmd(pulp.LpSolver_CMD):
         return report, problem.names
 
     def _free_name(self, name: str) -> str:
-        """A name for files that no kept file of another run has."""
+        """A name for files that no kept file of another run has: the problem's, else with -2, -3 ..
+
+        behind it.
+        """
         names = (name if number == 1 else f"{name}-{number}" for number in itertools.count(1))
         return next(
             free
@@ -169,7 +188,12 @@ class BridgeCmd(pulp.LpSolver_CMD):
         )
 
     def _options(self) -> dict[str, Any]:
-        """The arguments of `solve`; what is given as a word holds."""
+        """The arguments of `solve` beside the model and the solver; what is given as a word holds
+        against an argument.
+
+        Raises:
+            WrongOption: A word is no option.
+        """
         known: dict[str, Any] = {
             "format": "free",
             "prove": self.prove,
@@ -187,7 +211,13 @@ class BridgeCmd(pulp.LpSolver_CMD):
 
 
 def write_problem(lp: pulp.LpProblem, path: str) -> WrittenProblem:
-    """Writes a problem as an MPS file, with PuLP's own names where such a file can have them."""
+    """Writes a problem as an MPS file in free form and UTF-8, with PuLP's own names where such a
+    file can have them, else with those that PuLP makes.
+
+    Args:
+        lp: The problem.
+        path: Of the file.
+    """
     objective = lp.objective.name or "OBJ"
     names: Mapping[str, str] | None = None
     own = [variable.name for variable in lp.variables()]
@@ -208,7 +238,9 @@ def write_problem(lp: pulp.LpProblem, path: str) -> WrittenProblem:
 
 
 def can_be_names(names: Iterable[str]) -> bool:
-    """Whether each is one word that an MPS file can have, and none stands twice."""
+    """Whether each is one printable word of at most LONGEST_NAME bytes, as an MPS file has it, and
+    none stands twice.
+    """
     listed = list(names)
     return len(set(listed)) == len(listed) and all(
         name.isprintable() and name.split() == [name] and len(name.encode()) <= LONGEST_NAME
@@ -217,7 +249,9 @@ def can_be_names(names: Iterable[str]) -> bool:
 
 
 def in_arguments(text: str) -> str:
-    """What a driver tells, with the arguments of this class in place of its words."""
+    """What a driver tells, with the arguments of this class in place of its words, as
+    ARGUMENTS_BY_WORDS pairs them.
+    """
     for word, argument in ARGUMENTS_BY_WORDS:
         text = text.replace(word, argument)
     return text
@@ -238,7 +272,16 @@ def empty_interval(lp: pulp.LpProblem) -> str:
 def with_sense_and_constant(
     mps: str, objective: str, constant: float | None, *, maximise: bool
 ) -> str:
-    """PuLP's MPS text with what it leaves out: the sense, which it tells in a comment, and the objective's constant."""
+    """PuLP's MPS text with what it leaves out: the sense, which it tells in a comment, and the
+    objective's constant.
+
+    Args:
+        mps: The text.
+        objective: The name of its row.
+        constant: Is added to the objective; stands as minus itself in the right-hand sides. None is
+            0.
+        maximise: The sense.
+    """
     lines = mps.split("\n")
     if maximise:
         name = next(place for place, line in enumerate(lines) if line.startswith("NAME"))
@@ -251,8 +294,10 @@ def with_sense_and_constant(
 def statuses_of(code: int, last: str = "") -> Statuses:
     """PuLP's statuses of AMPL's code.
 
-    A point that a limit left, or that the message's last line calls feasible, is that and no more; one
-    that misses its rows is none.
+    Args:
+        code: AMPL's code.
+        last: The last line of the message. With a code from 100 to 199, a point that it says is
+            feasible is that and no more; without, the point may miss the model and is none.
     """
     if 100 <= code < 200 and last.split(" ")[0] in POINT_CLAIMS:
         return POINT_AT_LIMIT
@@ -260,7 +305,9 @@ def statuses_of(code: int, last: str = "") -> Statuses:
 
 
 def _clear_values(lp: pulp.LpProblem) -> None:
-    """Duals, slacks and reduced costs that another solver left do not pass for this one's."""
+    """Takes duals, slacks and reduced costs from a problem that another solver left: they do not
+    pass for this one's.
+    """
     for variable in lp.variables():
         variable.dj = None
     for constraint in lp.constraints.values():
@@ -268,7 +315,14 @@ def _clear_values(lp: pulp.LpProblem) -> None:
 
 
 def _assign_values(lp: pulp.LpProblem, report: Report, names: Mapping[str, str]) -> None:
-    """Values, slacks, duals and reduced costs, each where there are any."""
+    """Assigns values, slacks, duals and reduced costs in doubles, each where there are any; without
+    values each is None.
+
+    Args:
+        lp: The problem.
+        report: Its values by the file's names, duals in the order of the constraints.
+        names: The file's names of variables by PuLP's.
+    """
     if report.values:
         values = report.values.doubles()
         lp.assignVarsVals({name: values[own] for name, own in names.items()})

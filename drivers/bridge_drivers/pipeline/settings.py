@@ -50,7 +50,8 @@ class Settings:
         solver_path: Its executable, where that is not on the PATH.
         bridge: The words that start the proved program; "" looks for it.
         solver_settings: What the solver is asked; its limit of time is set by `time_limit`.
-        time_limit: Seconds of the solver, and again of the search for a certificate; 0 for no limit.
+        time_limit: Seconds of the solver, and again of the search for a certificate; 0 for no limit
+            of the solver, and CERTIFICATE_SECONDS of the search.
         certificate: What is asked of the search for a certificate.
         objective: Which objective of the model, from 0.
         round_integers: Values of integer variables within 1e-5 of a whole number become that number.
