@@ -2,6 +2,10 @@
 
 Each node is fathomed by a leaf that is judged exactly, or branched on. Branches that no leaf below
 them rests on are left out of the tree, with what stands in their siblings.
+
+A `BranchAndBound` is made by `SearchProblem.search`: one for this process (`parallel`) and one for
+each process of a pool (`worker_pools`); `cuts` makes small ones that refute the violators of a cut.
+Its `node` says where it stands.
 """
 
 from __future__ import annotations
@@ -34,10 +38,11 @@ ExactPoint = Callable[[Sequence[float]], Optional[Point]]
 
 
 class ImprovedIncumbent(NamedTuple):
-    """An exact point that the cutoff says is not there.
+    """An exact feasible point that the cutoff says is not there.
 
     Attributes:
-        value: Its objective, minimised.
+        point: By column.
+        value: Its objective, minimised, with the constant.
     """
 
     point: Point
@@ -45,7 +50,8 @@ class ImprovedIncumbent(NamedTuple):
 
 
 def no_point(x: Sequence[float]) -> Optional[Point]:
-    """For a search that is after a proof alone."""
+    """None, as the `exact_point` of a search that is after a proof alone: where some column is not
+    integer, no point is made then."""
     return None
 
 
@@ -53,10 +59,14 @@ class BranchAndBound:
     """One search, which can pause at any node and go on.
 
     Attributes:
-        nodes: Of the tree so far.
-        until: The second of the deadline at which it pauses.
+        node: Where it stands; `move_to` sends it to another subtree.
+        fathomer: Finds the leaves, for the cutoff.
+        branching: Chooses columns; its pseudocosts go from unit to unit.
+        nodes: Of the tree so far, proved or open; what falls away does not count.
+        until: The second of the deadline, as `spent` counts, at which it pauses.
         most_nodes: At which it pauses; at MOST_NODES it fails.
-        on_node: Called at nodes that are due to be told of.
+        most_depth: Beyond which it fails.
+        on_node: Called at nodes, when the progress is due to be told.
     """
 
     def __init__(
@@ -68,10 +78,16 @@ class BranchAndBound:
         forms: int = 0,
         strong_candidates: int = STRONG_CANDIDATES,
     ) -> None:
-        """
+        """A search at the root of the whole tree.
+
         Args:
-            exact_point: Makes an exact point of a relaxation's values, where one is near them.
+            program: With the objective's row, the cuts and at last the forms as its rows.
+            deadline: Of which it looks at the time and at interrupts; `until` alone makes it pause
+                earlier.
+            exact_point: Makes an exact point of a relaxation's values by column, where one is near
+                them; asked only where some column is not integer.
             forms: How many of the program's last rows are integer forms to branch on.
+            strong_candidates: Columns that strong branching tries at a node.
         """
         self.program = program
         self.deadline = deadline
@@ -87,16 +103,19 @@ class BranchAndBound:
 
     @property
     def cutoff(self) -> Cutoff:
+        """What the leaves must show."""
         return self.fathomer.cutoff
 
     @property
     def cutoff_value(self) -> float:
-        """In doubles; infinite where there is to be no point."""
+        """The cutoff in doubles, minimised, with the constant; infinite where there is to be no
+        point."""
         return math.inf if self.cutoff.value is None else float(self.cutoff.value)
 
     @property
     def dual_bound(self) -> float:
-        """What no point of the open nodes is better than, by their relaxations, minimised."""
+        """What no point of the open nodes is better than, minimised, by their relaxations in
+        doubles; minus infinity at the root of the whole tree."""
         path = self.node.path
         return least_open_bound(self.node.open_nodes, path[-1].bound if path else -math.inf)
 
@@ -109,7 +128,8 @@ class BranchAndBound:
 
         Raises:
             SearchPaused: Its seconds or nodes are over; it can go on.
-            SearchEnded: It cannot.
+            SearchEnded: It cannot: an interrupt, MOST_NODES, too deep, or a leaf or relaxation that
+                fails.
         """
         while True:
             found = self.solve_node(self.node.last_branch())
@@ -128,7 +148,11 @@ class BranchAndBound:
     def _backtrack(self, proved: ProvedSubtree) -> Optional[ProvedSubtree]:
         """Joins what is proved, upwards, until a sibling is still to be searched.
 
-        A branch that the proof does not rest on falls away: then it proves the node above too.
+        A branch that the proof does not rest on falls away: then it proves the node above too, and
+        `nodes` loses that node and what its sibling had.
+
+        Args:
+            proved: The node where the search stands.
 
         Returns:
             The whole subtree; None where the search now stands in a sibling.
@@ -153,13 +177,21 @@ class BranchAndBound:
     def solve_node(
         self, branch: Optional[Branch]
     ) -> Union[Branch, ProvedSubtree, ImprovedIncumbent]:
-        """The node's relaxation, and what follows from it.
+        """Solves the node's relaxation, and says what follows from it. At each node, also at one to
+        which the search comes back.
+
+        The dual simplex method comes first, and the primal one where that finds neither an optimum
+        nor a proof.
 
         Args:
             branch: That leads to the node; None at the root.
 
         Returns:
             The branch to search first, or the node's proof, or a better point.
+
+        Raises:
+            SearchPaused: The seconds or nodes are over; the node can be solved again.
+            SearchEnded: The search cannot go on, or CLP finds no end of the relaxation.
         """
         self.check_limits()
         changed = range(self.program.n) if branch is None else [branch.column]
@@ -184,7 +216,14 @@ class BranchAndBound:
     def _after_optimum(
         self, branch: Optional[Branch]
     ) -> Union[Branch, ProvedSubtree, ImprovedIncumbent]:
-        """At a relaxation that has an optimum."""
+        """What follows where the relaxation has an optimum: a leaf by its duals where its bound is
+        near the cutoff, else a branch.
+
+        From the bound that a branch gained pseudocosts are learnt first.
+
+        Args:
+            branch: That leads to the node; None at the root.
+        """
         bound = self.node.relaxation_bound()
         if branch is not None:
             gain, distance = bound - branch.bound, branch.distance()
@@ -197,7 +236,13 @@ class BranchAndBound:
         return self._branch_or_fathom(self.node.clp.values(), bound, LpStatus.OPTIMAL)
 
     def check_limits(self) -> None:
-        """Raises SearchEnded where the search may not go on."""
+        """Looks at the limits, at each node and each round of a pool; calls `on_node` where the
+        progress is due.
+
+        Raises:
+            SearchPaused: Seconds or nodes are over; it can go on.
+            SearchEnded: It cannot: an interrupt, MOST_NODES, or the node is too deep.
+        """
         self.deadline.check_search(self.nodes, self.until)
         if self.nodes >= self.most_nodes:
             if self.most_nodes < MOST_NODES:
@@ -209,10 +254,14 @@ class BranchAndBound:
             self.on_node()
 
     def close_and_bound(self) -> float:
-        """The least dual bound of what is open, each solved once more; this ends the search.
+        """The least dual bound of what is open, minimised, each node solved once more; this empties
+        `node.open_nodes`.
 
         A node whose relaxation has no optimum has the bound of the node above it; the root may have
-        none, which is minus infinity.
+        none, which is minus infinity. Infinite: no open node has a point.
+
+        Raises:
+            TimeOver: The time of exact work is over.
         """
         node = self.node
         least = self._bound_of_node(node.last_branch())
@@ -227,6 +276,12 @@ class BranchAndBound:
         return least
 
     def _bound_of_node(self, branch: Optional[Branch]) -> float:
+        """The dual bound of the node where `node` is, minimised: infinite where it is proved empty.
+
+        Args:
+            branch: Whose bound is taken where CLP finds neither; None at the root, which has minus
+                infinity.
+        """
         if self.node.column_without_integers(range(self.program.n)) is not None:
             return math.inf
         state = self.node.clp.solve()
@@ -237,12 +292,14 @@ class BranchAndBound:
         return -math.inf if branch is None else branch.bound
 
     def finish_at_cutoff(self, cutoff: Cutoff) -> Union[ProvedSubtree, ImprovedIncumbent]:
-        """What is left, at a cutoff that is not better, each open node by few nodes.
+        """What is left of the subtree, at a cutoff that is not better, each open node by few nodes.
 
-        What is proved already holds for that cutoff too. The time does not count.
+        What is proved already holds for that cutoff too. The time does not count, and no progress
+        is told: so it stays for this search, which has that cutoff from here on.
 
         Raises:
-            SearchEnded: Where few nodes are not enough.
+            SearchEnded: Where few nodes are not enough (then a SearchPaused), or a leaf does not
+                close.
         """
         self.fathomer.set_cutoff(cutoff)
         self.deadline = SearchDeadline()
@@ -257,10 +314,16 @@ class BranchAndBound:
     ) -> Union[Branch, ProvedSubtree, ImprovedIncumbent]:
         """A branching on what is not integer, else what is left to do with an integer point.
 
+        Columns and forms compete where some integer column is not integer; where only forms are
+        not, which then is rounding, nothing is branched on.
+
         Args:
-            x: Values of columns.
+            x: Values of columns; those of large integers are made exact first.
             bound: The dual bound of the node, minimised.
-            state: Of the relaxation that x is of.
+            state: Of the relaxation that x is of: OPTIMAL, or INFEASIBLE without a proof.
+
+        Returns:
+            The branch to search first, or the node's proof, or a better point.
         """
         if state is LpStatus.OPTIMAL and self._has_large_integers(x):
             x = self._exact_values(x)
@@ -280,10 +343,20 @@ class BranchAndBound:
     def _fathom_integer_point(
         self, x: Sequence[float], distances: Dict[int, float], bound: float, state: LpStatus
     ) -> Union[Branch, ProvedSubtree, ImprovedIncumbent]:
-        """Where all integer columns are integer in x, and there is no better point.
+        """Where all integer columns are integer in x, and no better point is known: a proof, or a
+        branch on a column that is not fixed.
 
-        CLP's tolerances may hide that there is none, and so may what it calls infeasible. So
-        columns are branched on that are not fixed, until multipliers show it.
+        CLP's tolerances may hide that there is no better point, and so may what it calls
+        infeasible. So columns are branched on that are not fixed, until multipliers show it.
+
+        Args:
+            x: Values of columns.
+            distances: Of integer columns and forms from integers, by number.
+            bound: The dual bound of the node, minimised.
+            state: OPTIMAL, or INFEASIBLE without a proof: then a point at x is looked for at last.
+
+        Raises:
+            SearchEnded: All are fixed, and no leaf closes.
         """
         proved = self.fathomer.by_phase_one()
         if proved is not None:
@@ -303,13 +376,18 @@ class BranchAndBound:
         return proved
 
     def _has_large_integers(self, x: Sequence[float]) -> bool:
+        """Whether doubles may not tell an integer column's value from its neighbours."""
         return any(
             is_integer and abs(v) >= LARGEST_EXACT_INTEGER
             for v, is_integer in zip(x, self.program.is_integer)
         )
 
     def _exact_values(self, x: Sequence[float]) -> Sequence[float]:
-        """The vertex of the basis in fractions, else x with exact bounds where it is at these."""
+        """The vertex of the basis in fractions, else x with exact bounds where it is at these.
+
+        It is for integer columns beyond LARGEST_EXACT_INTEGER. The fractions stand in place of
+        doubles from there on.
+        """
         n, node = self.program.n, self.node
         linear = self.program.with_bounds(node.box.lower[:n], node.box.upper[:n])
         linear = linear.with_integers([False] * n)
@@ -323,7 +401,7 @@ class BranchAndBound:
         return at_bounds  # type: ignore[return-value]
 
     def _with_forms(self, x: Sequence[float]) -> Dict[int, float]:
-        """Values of the columns, and of the forms behind them."""
+        """Values of the columns, and of the forms behind them, by number, in their own units."""
         values = dict(enumerate(x))
         for form in self.node.forms:
             entries = self.node.entries(form)
@@ -331,7 +409,12 @@ class BranchAndBound:
         return values
 
     def _distances(self, values: Dict[int, float]) -> Dict[int, float]:
-        """How far integer columns, and forms, are from integers."""
+        """How far integer columns, and forms, are from integers, by number; other columns are left
+        out.
+
+        Args:
+            values: As `_with_forms` has them.
+        """
         return {
             j: abs(v - round(v))
             for j, v in values.items()
@@ -339,7 +422,11 @@ class BranchAndBound:
         }
 
     def _improved_incumbent(self, x: Sequence[float]) -> Optional[ImprovedIncumbent]:
-        """The exact point at x, where it is one that should not be there."""
+        """The exact point at x, where it is feasible in the searched program and better than the
+        cutoff.
+
+        It is the rounded x where all columns are integer, else what `exact_point` makes of it.
+        """
         program = self.program
         if all(program.is_integer):
             point: Optional[Point] = [Fraction(round(v)) for v in x]
@@ -351,7 +438,7 @@ class BranchAndBound:
         return ImprovedIncumbent(point, value) if self.cutoff.is_improved_by(value) else None
 
     def _unfixed_column(self, distances: Dict[int, float]) -> Optional[int]:
-        """An integer column that is not fixed.
+        """An integer column that is not fixed; None where all are.
 
         The one that is farthest from an integer, then one with a cost, then the one with the
         nearest bounds: the others are rounded by what it is.
@@ -359,6 +446,8 @@ class BranchAndBound:
         lower, upper = self.node.box
 
         def rank(column: int) -> tuple[float, bool, float]:
+            """What is greatest is branched on: the distance, whether it has a cost, and the width
+            of its bounds, negative."""
             low, high = lower[column], upper[column]
             width = math.inf if low is None or high is None else float(high - low)
             return distances[column], bool(self.program.cost_fractions[column]), -width
@@ -371,10 +460,14 @@ class BranchAndBound:
         return max(unfixed, key=rank) if unfixed else None
 
     def _branch(self, column: int, value: float, direction: int, bound: float) -> Branch:
-        """Of which one part may be empty, but never both.
+        """The branch on a column or form at its value, in that direction; one of both parts may be
+        empty, but never both.
 
         Bounds of integer columns need not be integers. So the two branches meet where both have
-        room as far as that goes.
+        room as far as that goes. CLP's basis at the time goes with it.
+
+        Args:
+            bound: The dual bound of the node, minimised.
         """
         low, high = self.node.box.lower[column], self.node.box.upper[column]
         unit = self.program.bound_scale

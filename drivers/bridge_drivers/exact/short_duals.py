@@ -2,7 +2,8 @@
 
 CLP's duals are rounded. Where rounding leaves a column a reduced cost whose sign rests on a bound
 that it does not have, other duals move, so that the reduced cost is 0. Costs that are made a little
-worse leave room for rounding.
+worse leave room for rounding. The certifiers put the bounds of what comes out, `ShortDuals`, to
+what is known; `box_bound` and `rounded_bound` serve bounds of all kinds.
 """
 
 from __future__ import annotations
@@ -31,26 +32,31 @@ NO_MULTIPLIERS = Multipliers({}, 1, MultiplierKind.DUAL)  # the leaf that rests 
 
 
 class ShortDuals(NamedTuple):
-    """Duals, and their bound, which is finite."""
+    """Duals, and their bound in the program's own box, which is finite."""
 
     multipliers: Multipliers
     bound: DualBound
 
     @property
     def value(self) -> Fraction:
-        """What the objective is at least, minimised."""
+        """What the objective is at least, minimised, with its constant."""
         return self.bound.value
 
 
 def short_duals(program: IntegerProgram, clp: Clp, deadline: Deadline) -> List[ShortDuals]:
-    """Duals in decimals, the best first.
+    """Duals in decimals, by the bound that they give, the best first.
+
+    Called where no basis is exactly optimal in narrow numbers, and for the root bound of an integer
+    program.
 
     Args:
+        program: Its integer marks are not looked at.
         clp: With the program's optimum.
+        deadline: For CLP, which solves once more for each margin of the costs.
 
     Returns:
-        Those by the smallest margins of costs whose bound is near CLP's optimum, with all by
-        smaller ones; or all that were found.
+        Those by the smallest margins of costs whose bound is near CLP's optimum (GOOD_GAP), with
+        all by smaller ones; or all that were found. May be empty.
     """
     basis = clp.saved_basis()
     found: List[ShortDuals] = []
@@ -71,10 +77,17 @@ def short_duals(program: IntegerProgram, clp: Clp, deadline: Deadline) -> List[S
 def duals_with_margin(
     program: IntegerProgram, margin: float, basis: bytes, deadline: Deadline
 ) -> List[float]:
-    """The duals under costs that leave a margin in each column that has one bound.
+    """The duals under costs that leave a margin in each column that has one bound: so much smaller
+    with a lower bound alone, larger with an upper one.
+
+    Reduced costs under the program's own costs then keep their signs when duals are rounded.
+
+    Args:
+        margin: In the units of the costs, minimised; above 0.
+        basis: As `Clp.saved_basis` has it, of the optimum under the program's own costs.
 
     Returns:
-        By row, in doubles; none where CLP finds no optimum.
+        By row, minimised, in doubles; an empty list where CLP finds no optimum.
     """
     doubles = program.in_doubles()
     costs = [
@@ -86,7 +99,11 @@ def duals_with_margin(
 
 
 def rounded_duals(program: IntegerProgram, duals: Mapping[int, float]) -> List[ShortDuals]:
-    """Roundings of duals, by row, whose bound is finite: of few digits first."""
+    """Roundings of duals whose bound is finite, in the program's own box: of few digits first.
+
+    Args:
+        duals: By row, minimised; rows that are not named have 0.
+    """
     found = []
     box = Box(program.lower, program.upper)
     nonzero = {i: v for i, v in duals.items() if v}
@@ -111,9 +128,11 @@ def with_zero_reduced_costs(
     """Duals under which columns have the reduced cost 0 that lack the bound that theirs needs.
 
     Duals move that are those of equations, or that are not small, so that they keep their signs.
+    What lacks its bound after a move is set to 0 in the next round, too, up to MOST_ROUNDS.
 
     Args:
-        given: The duals, and `bound` theirs.
+        given: The duals, of which some column lacks the bound that its reduced cost needs.
+        bound: Theirs, in the program's own box.
 
     Returns:
         None where there are no such duals, or they are too wide for a certificate.
@@ -142,7 +161,8 @@ def with_zero_reduced_costs(
 
 
 def _movable_rows(program: IntegerProgram, given: Multipliers) -> List[bool]:
-    """By row whether its dual may move: it is an equation's, or is not small."""
+    """By row whether its dual may move: it is an equation's, or larger in size than LARGE_DUAL of
+    the largest."""
     largest = max((abs(v) for v in given.numerators.values()), default=0)
     least = largest * LARGE_DUAL
     return [
@@ -154,7 +174,12 @@ def _movable_rows(program: IntegerProgram, given: Multipliers) -> List[bool]:
 def _moved(
     program: IntegerProgram, given: Multipliers, moves: Mapping[int, Fraction]
 ) -> Optional[Multipliers]:
-    """Duals and moves by row, over the duals' denominator; None where one lacks its row bound."""
+    """The sum of duals and moves, exactly, over a denominator of both; None where one lacks the row
+    bound that its sign needs.
+
+    Args:
+        moves: By row, as numerators over the denominator of `given`.
+    """
     common = math.lcm(1, *{v.denominator for v in moves.values()})
     numerators: Dict[int, int] = {i: v * common for i, v in given.numerators.items()}
     for i, v in moves.items():
@@ -166,13 +191,19 @@ def _moved(
 
 
 def box_bound(program: IntegerProgram) -> Optional[Fraction]:
-    """What the objective is at least within bounds of columns alone; None where that is nothing."""
+    """What the objective is at least within bounds of columns alone, minimised, with its constant;
+    None where that is nothing."""
     bound = dual_bound(program, NO_MULTIPLIERS, Box(program.lower, program.upper))
     return bound.value if bound.is_finite else None
 
 
 def rounded_bound(program: IntegerProgram, bound: Fraction) -> Fraction:
-    """A bound in few digits, a little worse, and never worse than what `box_bound` says."""
+    """A bound in few digits, a little worse, so that a certificate can hold it; not worse than what
+    `box_bound` says, unless the given one is. For bounds that are told and have too many digits.
+
+    Args:
+        bound: Minimised, with the constant.
+    """
     first_digit = math.floor(math.log10(max(1.0, abs(float(bound)))))
     step = Fraction(10) ** (first_digit - DIGITS_OF_BOUND)
     least = box_bound(program)

@@ -4,6 +4,9 @@ The program is solved once more with a margin: its rows are tightened by as much
 change them. Its point is rounded to decimals. What is then left of equations is taken up by a
 column that stands in one equation alone, by a basis of the equations, or in decimals by a pair of
 columns of each row.
+
+`DecimalPoints` is what `linear_certifier` asks for points; within it a `_RowPlan` says which rows
+are met how, and a `_Grid` holds one rounded point.
 """
 
 from __future__ import annotations
@@ -38,7 +41,8 @@ Moves = Dict[int, Fraction]  # by column, in units of rounding and over `bound_s
 
 
 class ShortPoint(NamedTuple):
-    """A point, and in words how what was left of equations was taken up."""
+    """A point, by column and exact, and in words how what was left of equations was taken up: for
+    the note of a certificate."""
 
     point: Point
     way: str
@@ -57,9 +61,9 @@ class _RowPlan:
 
     Attributes:
         singletons: By equation a column that stands in no other row, and takes up its rest.
-        equations: By equation without such a column its side.
-        exact: What is met exactly beside those: the equations, and rows that have no room for a
-            margin, by the bound that they meet.
+        equations: By equation without such a column its side, over `bound_scale`.
+        exact: What is met exactly beside those with singletons: by row the bound that it meets,
+            over `bound_scale`. That is the equations, and rows that have no room for a margin.
         with_margin: The rows that get a margin; None: all of them.
     """
 
@@ -69,10 +73,15 @@ class _RowPlan:
     with_margin: Optional[Set[int]] = None
 
     def has_margin(self, row: int) -> bool:
+        """Whether the bounds of this row are tightened before rounding."""
         return self.with_margin is None or row in self.with_margin
 
     def way(self, *, in_pairs: bool) -> str:
-        """In words; nothing where there is nothing to take up."""
+        """How rest is taken up, in words; nothing where there is nothing to take up.
+
+        Args:
+            in_pairs: By pairs of columns of each row, else by singletons and a basis.
+        """
         if in_pairs:
             rows = counted(len(self.exact) + len(self.singletons), "row")
             return f"rounding is taken up by pairs of columns of {rows}"
@@ -90,11 +99,19 @@ class DecimalPoints:
     """Feasible points of one program in decimals, near an optimum in doubles.
 
     Args:
-        program: Its integer marks are not looked at.
-        basis: CLP's, of the optimum.
+        program: Its integer marks are not looked at, but by the last check of a point.
+        basis: As `Clp.saved_basis` has it, of the optimum.
         x: The optimum, by column.
-        scaled_by_rows: Each column gets decimals by how much its rounding counts in its rows;
-            else all have as many.
+        deadline: For CLP, which solves the program again and again.
+        scaled_by_rows: Each column gets decimals by how much its rounding counts in its rows; else
+            all have as many.
+
+    Attributes:
+        basis: Of the last optimum under margins, from which the next solve begins.
+        largest: Value of x, in size.
+        extra_places: By column, decimals beyond those that are asked for; below 0 there are fewer.
+        most_extra: The greatest of them.
+        plan: How rows are met, but for `stepwise`.
     """
 
     def __init__(
@@ -106,6 +123,8 @@ class DecimalPoints:
         *,
         scaled_by_rows: bool = False,
     ) -> None:
+        """Plans how rows are met, and how many decimals each column gets; nothing is solved yet.
+        For the arguments see the class."""
         self.program = program
         self.basis = basis
         self.deadline = deadline
@@ -119,9 +138,15 @@ class DecimalPoints:
         self.plan = _RowPlan(singletons, equations, dict(equations))
 
     def points(self) -> Iterator[ShortPoint]:
-        """Those that are feasible, of many decimals first.
+        """Yields those that are feasible, and narrow enough for a certificate, of many decimals
+        first.
 
-        At last margins are given to rows alone that rounding breaks.
+        First columns alone and a basis take up what is left, then pairs of columns. At last margins
+        are given to rows alone that rounding breaks. Digits of the largest value before the point
+        are taken off the decimals.
+
+        Raises:
+            TimeOver: The time of exact work is over.
         """
         left = MOST_DIGITS - max(0, math.ceil(math.log10(max(self.largest, 1.0))))
         wanted = list(PLACES)
@@ -138,7 +163,12 @@ class DecimalPoints:
                 yield found
 
     def with_margins(self, places: int, *, in_pairs: bool = False) -> Optional[ShortPoint]:
-        """The optimum under margins, rounded to so many decimals; it need not be feasible.
+        """The optimum under margins in all rows, rounded to so many decimals; it need not be
+        feasible.
+
+        Args:
+            places: Decimals, beside the extra ones of columns; below 0 left of the point.
+            in_pairs: What is left is taken up by pairs of columns, else by singletons and a basis.
 
         Returns:
             None where there is no optimum, or rounding is not taken up.
@@ -147,10 +177,12 @@ class DecimalPoints:
         return None if x is None else self._rounded(self.plan, x, places, in_pairs=in_pairs)
 
     def stepwise(self, places: int) -> Optional[ShortPoint]:
-        """A feasible point, with margins in rows alone that rounding breaks.
+        """A feasible point of so many decimals, with margins in rows alone that rounding breaks;
+        None where there is none.
 
         Where the program has no point with these margins, the rows that got theirs last are met
-        exactly. No column is a singleton here.
+        exactly; so are rows that rounding breaks in spite of theirs. No column is a singleton here.
+        Up to STEPWISE_ROUNDS solves are made.
         """
         plan = self._plan_without_singletons()
         margins: Set[int] = set()
@@ -176,22 +208,25 @@ class DecimalPoints:
         return None
 
     def _plan_without_singletons(self) -> _RowPlan:
+        """A plan of its own for `stepwise`, in which all equations are met by a basis."""
         singles = {i: s for i, s in _equations(self.program) if i in self.plan.singletons}
         equations = {**self.plan.equations, **singles}
         return _RowPlan({}, equations, dict(equations))
 
     def _violated_rows(self, point: Point) -> Dict[int, int]:
-        """By row the bound that it misses."""
+        """By row the bound that it misses at a point, over `bound_scale`."""
         numerators, denominator = over_common_denominator(point)
         values = [v * self.program.bound_scale for v in numerators]
         return dict(self.program.violated_rows(values, denominator))
 
     def _is_usable(self, found: ShortPoint) -> bool:
+        """Whether a certificate can hold the point's numbers, and it is feasible."""
         fits = all(map(fits_certificate, found.point))
         return fits and self.program.is_feasible(found.point)
 
     def _solve_with_margins(self, plan: _RowPlan, places: int) -> Optional[List[float]]:
-        """The optimum under margins for so many decimals, from the last such basis."""
+        """The optimum under margins for so many decimals, by column in doubles, from the last such
+        basis; that of this one is kept. None where CLP finds no optimum."""
         check_work()
         unit = 10.0**-places
         tightened = self._tightened(plan, unit)
@@ -202,7 +237,16 @@ class DecimalPoints:
         return clp.values()
 
     def _tightened(self, plan: _RowPlan, unit: float) -> DoubleProgram:
-        """With margins for rounding to `unit` in rows, and in the bounds of singletons."""
+        """The relaxation with margins for rounding to `unit`, in the bounds of rows that the plan
+        names, and twice as wide in those of singletons, which move after the rounding. Bounds too
+        close for a margin stay.
+
+        A row's margin is the sum of its coefficients' sizes, each times its column's unit of
+        rounding, and one least unit more; rounding moves its activity by half of that at most.
+
+        Args:
+            unit: Ten to the power of minus the decimals.
+        """
         program, doubles = self.program, self.program.in_doubles()
         weights = [10 ** (self.most_extra - extra) for extra in self.extra_places]
         least = unit * 10.0**-self.most_extra
@@ -221,7 +265,13 @@ class DecimalPoints:
     def _rounded(
         self, plan: _RowPlan, x: Sequence[float], places: int, *, in_pairs: bool
     ) -> Optional[ShortPoint]:
-        """A point that meets exactly what the plan wants; None where rounding is not taken up."""
+        """A point that meets exactly what the plan wants; None where rounding is not taken up.
+
+        Args:
+            x: By column, in doubles.
+            places: Decimals, beside the extra ones.
+            in_pairs: As in `with_margins`.
+        """
         grid = _Grid(self.program, plan, self.extra_places, 10 ** max(places + self.most_extra, 0))
         grid.place(x, places)
         moves = grid.moves_in_pairs() if in_pairs else grid.moves_by_basis()
@@ -230,6 +280,8 @@ class DecimalPoints:
 
 class _Grid:
     """Decimals near a point, and how columns move so that rows are met exactly.
+
+    First `place`, then one of the two kinds of moves, then `point`.
 
     Attributes:
         unit_count: How many units of rounding are 1: a power of ten.
@@ -243,6 +295,12 @@ class _Grid:
         extra_places: Sequence[int],
         unit_count: int,
     ) -> None:
+        """A grid without values yet.
+
+        Args:
+            extra_places: By column, decimals beyond those that `place` gets.
+            unit_count: A power of ten that holds the decimals of each column.
+        """
         self.program = program
         self.plan = plan
         self.extra_places = extra_places
@@ -250,7 +308,12 @@ class _Grid:
         self.values: List[int] = []
 
     def place(self, x: Sequence[float], places: int) -> None:
-        """Rounds x, to so many decimals and the extra ones, and into the bounds of columns."""
+        """Sets `values`: x rounded to so many decimals and the extra ones, and into the bounds of
+        columns, which may have more decimals.
+
+        Args:
+            x: By column, in doubles.
+        """
         scale = self.program.bound_scale
         self.values = [
             rounded_to_places(v, places + extra, self.unit_count) * scale
@@ -261,7 +324,7 @@ class _Grid:
             self.values[j] = bound * self.unit_count
 
     def point(self, moves: Moves) -> Point:
-        """The point after these moves."""
+        """The point after these moves, exact, in the program's own units."""
         denominator = self.unit_count * self.program.bound_scale
         shared = {v: Fraction(v, denominator) for v in set(self.values)}
         return [
@@ -270,13 +333,13 @@ class _Grid:
         ]
 
     def moves_by_basis(self) -> Optional[Moves]:
-        """By an elimination of the rows that are met exactly, then by singletons.
+        """Moves of columns by an elimination of the rows that are met exactly, then of singletons.
 
         Columns move that stand far enough from their bounds; those that the elimination leaves free
-        stay.
+        stay. How far they move is not looked at.
 
         Returns:
-            None where others would have to move.
+            None where others would have to move, or the elimination takes too much work.
         """
         rows = self.program.rows
         free = self._free_columns() if self.plan.exact else []
@@ -291,10 +354,11 @@ class _Grid:
         return moves
 
     def moves_in_pairs(self) -> Optional[Moves]:
-        """By pairs of columns of each row, both of which stay decimals.
+        """Moves of pairs of columns of each row that is met exactly, after which both still are
+        decimals.
 
         An elimination makes fractions, and those of many rows together make the objective's
-        fraction long.
+        fraction long. A row that nothing is left of needs no pair.
 
         Returns:
             None where a row has no pair that no row before it has.
@@ -317,18 +381,20 @@ class _Grid:
         return moves
 
     def _is_fresh(self, column: int, seen: Set[int]) -> bool:
-        """Whether it is in no row before, and neither fixed nor without any bound."""
+        """Whether a column is in none of the rows seen before, and neither fixed nor without any
+        bound."""
         return column not in seen and self.program.lower[column] != self.program.upper[column]
 
     def _stand_high(self) -> List[bool]:
-        """Which columns stand at their upper bounds."""
+        """By column whether it stands at its upper bound, so that it moves downwards alone."""
         return [
             upper is not None and v >= upper * self.unit_count
             for v, upper in zip(self.values, self.program.upper)
         ]
 
     def _rest(self, row: int, moves: Mapping[int, Fraction]) -> Fraction:
-        """What a row lacks of the bound that it meets, over `row_scale` as well as the values."""
+        """What a row lacks, after these moves, of the bound that it meets: the one that the plan
+        names, else its lower one. Over `row_scale` as well as the scales of `values`."""
         program = self.program
         side = self.plan.exact.get(row, program.row_lower[row])
         assert side is not None
@@ -338,7 +404,8 @@ class _Grid:
         return left - sum((a * moves[j] for j, a in entries if j in moves), ZERO)
 
     def _free_columns(self) -> List[bool]:
-        """Which columns stand far enough from their bounds."""
+        """By column whether it stands farther from each of its bounds than FREE_UNITS of its
+        rounding."""
         count, scale = self.unit_count, self.program.bound_scale
         most_extra = max(self.extra_places, default=0)
         rooms = (FREE_UNITS * scale * 10 ** (most_extra - extra) for extra in self.extra_places)
@@ -361,11 +428,12 @@ def moves_of_pair(
     Args:
         firsts: Columns that may move far, with their coefficients a.
         partners: Columns that move by less than 1, with their coefficients b.
+        rest: Over the scale of the coefficients and that of the moves.
         is_high: By column: whether it can move downwards alone.
 
     Returns:
-        The move of the pair whose second column has the fewest values to choose from; None where
-        there is no pair.
+        The moves, by column, of the first pair that has such, by how few values its second column
+        has to choose from; None where there is no pair.
     """
     pairs = sorted(
         _Pair(abs(a) // math.gcd(a, b), j, a, k, b)
@@ -381,7 +449,8 @@ def moves_of_pair(
 
 
 class _Pair(NamedTuple):
-    """Two columns of a row with their coefficients; `b` is 0 where the first is alone."""
+    """Two columns of a row with their coefficients; `b` is 0 where the first is alone. Pairs are
+    tried in the order of these values."""
 
     modulus: int  # a / gcd(a, b), in size
     first: int
@@ -391,7 +460,13 @@ class _Pair(NamedTuple):
 
 
 def _solved_pair(pair: _Pair, rest: Fraction, is_high: bool) -> Optional[Moves]:
-    """The moves of one pair; None where the rest has too many decimals for it."""
+    """The moves of one pair by column, of the fewest decimals that do; None where the rest has too
+    many decimals for it.
+
+    Args:
+        rest: As in `moves_of_pair`.
+        is_high: Whether the second column can move downwards alone; else it moves upwards.
+    """
     modulus, first, a, second, b = pair
     common = math.gcd(a, b)
     digits = len(str(modulus))
@@ -410,8 +485,11 @@ def _solved_pair(pair: _Pair, rest: Fraction, is_high: bool) -> Optional[Moves]:
 def rounded_to_places(value: float, places: int, unit_count: int) -> int:
     """A double in so many decimals, which may stand left of the point (below 0).
 
+    Args:
+        unit_count: A power of ten, of at least as many decimals.
+
     Returns:
-        The numerator over `unit_count`, a power of ten.
+        The numerator over `unit_count`.
     """
     power: int = 10 ** abs(places)
     if places < 0:
@@ -424,6 +502,12 @@ def extra_places_by_rows(program: IntegerProgram, x: Sequence[float]) -> List[in
 
     A rounding of the column is then as small beside each of its rows as one of 1 is beside 1. The
     size of a row is that of its largest term or bound at x.
+
+    Args:
+        x: By column, in doubles.
+
+    Returns:
+        Between -MOST_EXTRA_PLACES and MOST_EXTRA_PLACES; 0 of a column without rows of any size.
     """
     share = [0.0] * program.n
     for row, lower, upper in zip(program.rows, program.row_lower, program.row_upper):
@@ -437,9 +521,10 @@ def extra_places_by_rows(program: IntegerProgram, x: Sequence[float]) -> List[in
 
 
 def singleton_columns(program: IntegerProgram) -> Dict[int, Entry]:
-    """By equation a column that is not fixed and stands in no other row.
+    """By equation a column that is not fixed and stands in no other row; equations without such are
+    left out.
 
-    It is one with a coefficient of 1 where there is such a one.
+    It is one with a coefficient of 1 or -1 where there is such a one.
     """
     starts = program.columns.starts
     found: Dict[int, Entry] = {}
@@ -455,7 +540,7 @@ def singleton_columns(program: IntegerProgram) -> Dict[int, Entry]:
 
 
 def _equations(program: IntegerProgram) -> Iterator[Tuple[int, int]]:
-    """Rows that are equations, and their sides."""
+    """Yields each row that is an equation, and its side over `bound_scale`."""
     for i, (lower, upper) in enumerate(zip(program.row_lower, program.row_upper)):
         if lower is not None and lower == upper:
             yield i, lower
@@ -464,7 +549,8 @@ def _equations(program: IntegerProgram) -> Iterator[Tuple[int, int]]:
 def shrunk(
     lower: DoubleBound, upper: DoubleBound, margin: float
 ) -> Tuple[DoubleBound, DoubleBound]:
-    """Bounds without a margin on each side, where they are far enough apart for it."""
+    """Bounds of a row or column with a margin taken off at each side, where they are LEAST_WIDTH
+    margins apart; else the same, as those of equations."""
     if lower is not None and upper is not None and upper - lower < LEAST_WIDTH * margin:
         return lower, upper
     return None if lower is None else lower + margin, None if upper is None else upper - margin
@@ -475,7 +561,11 @@ def solve_again(
 ) -> Optional[Clp]:
     """The solved program, from a basis of one like it; None where it has no optimum then.
 
+    It serves points under margins of rows, and duals under margins of costs (`short_duals`).
+
     Args:
+        basis: As `Clp.saved_basis` has it.
+        deadline: Of whose time the solve gets a part.
         tolerance: How much CLP may miss rows and bounds.
     """
     clp = Clp(program)
