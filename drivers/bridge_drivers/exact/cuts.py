@@ -179,7 +179,7 @@ class RootCutLoop:
         return Relaxed(program, clp)
 
     def is_over(self, until: float) -> bool:
-        """Whether that second of the deadline, as `spent` counts, has passed, or an interrupt came."""
+        """Whether an interrupt came, or that second of the deadline (as `spent` counts) is over."""
         return self.deadline.spent() > until or self.deadline.is_interrupted
 
     def closed_share(self, root_bound: float) -> float:

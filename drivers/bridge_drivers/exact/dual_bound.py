@@ -10,7 +10,8 @@ has less than
     c0 + sum of (y_i L_i if y_i > 0 else y_i U_i) + sum of (d_j l_j if d_j > 0 else d_j u_j).
 
 That is the rule by which `bridge verify` judges a leaf. With the costs 0 a bound above 0 says that
-there is no feasible point (Farkas' lemma).
+there is no feasible point (Farkas' lemma). `leaf_proofs`, `short_duals` and `evidence` judge what
+they find by `dual_bound`; `certifier` asks `is_optimal_in_doubles` where the time is over.
 """
 
 from __future__ import annotations
@@ -45,7 +46,8 @@ class Multipliers(NamedTuple):
     """Multipliers of rows, exact, over one denominator.
 
     Attributes:
-        numerators: By row, those that are not 0.
+        numerators: By place of a row in the program, those that are not 0. Duals are those of the
+            program as it is minimised: one above 0 rests on the lower bound of its row.
         denominator: Above 0.
         kind: What they prove.
     """
@@ -59,7 +61,7 @@ class Multipliers(NamedTuple):
         return self.kind is MultiplierKind.FARKAS
 
     def fits_certificate(self) -> bool:
-        """Whether the judge can hold each of them."""
+        """Whether the judge can hold each of them, in lowest terms."""
         return all(
             fits_certificate(Fraction(numerator, self.denominator))
             for numerator in self.numerators.values()
@@ -78,7 +80,8 @@ class DualBound(NamedTuple):
     """What multipliers show of one box.
 
     Attributes:
-        numerator: Of the bound, over `denominator`. It means nothing unless `is_finite`.
+        numerator: Of the bound, minimised and with the objective's constant, over `denominator`; of
+            Farkas multipliers without costs and constant. It means nothing unless `is_finite`.
         denominator: Above 0.
         reduced_costs: By column; times `bound_scale` of the program they are over `denominator`.
         unbounded_columns: Columns without the bound that the sign of their reduced cost needs.
@@ -91,41 +94,57 @@ class DualBound(NamedTuple):
 
     @property
     def is_finite(self) -> bool:
+        """Whether the multipliers show anything: each column has the bound that it needs."""
         return not self.unbounded_columns
 
     @property
     def value(self) -> Fraction:
+        """The bound where it is finite: no point of the box has less, minimised."""
         return Fraction(self.numerator, self.denominator)
 
 
 def fits_certificate(value: Fraction) -> bool:
-    """Whether numerator and denominator fit the 128 bits that the judge has for each."""
+    """Whether numerator and denominator fit the 127 bits, beside a sign, that the judge has."""
     return abs(value.numerator) <= LARGEST_INTEGER and value.denominator <= LARGEST_INTEGER
 
 
 def bit_width(values: Iterable[Fraction]) -> int:
-    """Bits of the widest numerator or denominator; 0 of none. Equal objects are looked at once."""
+    """Bits of the widest numerator or denominator, without signs; 0 where there are no values.
+
+    An object that stands there often is looked at once.
+    """
     distinct = {id(value): value for value in values}.values()
     return max((max(abs(v.numerator), v.denominator).bit_length() for v in distinct), default=0)
 
 
 def needed_row_bound(program: IntegerProgram, row: int, multiplier: float | Fraction) -> Bound:
-    """The bound of a row that a multiplier of this sign rests on, over `bound_scale`."""
+    """The bound of a row that a multiplier of this sign rests on, over `bound_scale`.
+
+    The lower one where the multiplier is above 0, else the upper; None where the row lacks it.
+    """
     return program.row_lower[row] if multiplier > 0 else program.row_upper[row]
 
 
 def has_needed_bound(program: IntegerProgram, row: int, multiplier: float | Fraction) -> bool:
-    """Whether a row can have a multiplier of this sign; any row can have 0."""
+    """Whether a row has the bound that a multiplier of this sign rests on; 0 rests on none."""
     return multiplier == 0 or needed_row_bound(program, row, multiplier) is not None
 
 
 def needed_column_bound(box: Box, column: int, reduced_cost: float) -> Bound:
-    """The bound of a column that a reduced cost of this sign rests on, over `bound_scale`."""
+    """The bound of a column that a reduced cost of this sign rests on, over `bound_scale`.
+
+    The lower one where the cost is above 0, else the upper; None where the box lacks it.
+    """
     return box.lower[column] if reduced_cost > 0 else box.upper[column]
 
 
 def reduced_cost_term(box: Box, column: int, reduced_cost: int) -> Optional[int]:
-    """What a reduced cost adds to a bound; None where the column lacks the bound for it."""
+    """What a reduced cost adds to a bound; None where the column lacks the bound that it rests on.
+
+    Args:
+        reduced_cost: In the units of `DualBound.reduced_costs`; the answer is in those of its
+            numerator.
+    """
     if not reduced_cost:
         return 0
     end = needed_column_bound(box, column, reduced_cost)
@@ -133,15 +152,17 @@ def reduced_cost_term(box: Box, column: int, reduced_cost: int) -> Optional[int]
 
 
 def dual_bound(program: IntegerProgram, multipliers: Multipliers, box: Box) -> DualBound:
-    """The exact bound of the rule above, in whole numbers.
+    """The exact bound of the rule above (weak duality), in whole numbers.
 
     Args:
         program: Its row bounds must be there where multipliers rest on them.
         multipliers: Of its rows.
-        box: Bounds of the columns, over `bound_scale`, in place of the program's own.
+        box: Bounds of the columns, over `bound_scale`, in place of the program's own. What stands
+            behind the columns is not looked at.
 
     Returns:
-        The bound; its denominator is that of the multipliers times the program's three scales.
+        The bound, minimised. Its denominator is that of the multipliers times `row_scale`,
+        `bound_scale` and, but for Farkas multipliers, `cost_scale`.
     """
     common = multipliers.denominator * program.row_scale
     if multipliers.is_farkas:  # the objective counts as 0
@@ -173,12 +194,16 @@ def is_optimal_in_doubles(
 ) -> bool:
     """Whether duals bound the objective at a point that misses nothing but rounding.
 
+    That is where the objective is beyond their bound by at most RELATIVE_GAP of the greatest of 1,
+    its size and the sum of the sizes of its terms. The gap counts with what rows are missed by,
+    times their duals, and with the most that rounding may have hidden.
+
     That is no proof: a column without the bound that its reduced cost needs is taken to end far
     beyond its value where that cost is next to nothing. A message that rests on it says so
-    (`DOUBLES_NOTE`).
+    (`DOUBLES_NOTE`). `certifier` asks for it where the time is over before a proof.
 
     Args:
-        x: Values of the columns.
+        x: By column; a value that misses a bound by rounding is moved to it first.
         duals: By row, of the program as it is minimised here.
     """
     point = [
@@ -201,8 +226,15 @@ def is_optimal_in_doubles(
 def row_residuals(program: IntegerProgram, x: Sequence[float]) -> Optional[List[float]]:
     """By how much rows are missed at a point, and what doubles leave out of that.
 
+    A row may be missed by ROUNDING_OF_A_ROW of its largest term or bound.
+
+    Args:
+        x: By column.
+
     Returns:
-        By row, at least 0; None where a column's bound is missed, or a row by more than rounding.
+        By row, in its own units, above 0 where it has terms or bounds: what it is missed by and the
+        most that rounding may have hidden. None where a column's bound is missed, or a row by more
+        than rounding.
     """
     for value, lower, upper in zip(x, program.lower, program.upper):
         if violation(value, program.bound_as_double(lower), program.bound_as_double(upper)):
@@ -233,9 +265,16 @@ def lower_bound_in_doubles(
 ) -> float:
     """The rule above in doubles, less all that their rounding may have added.
 
+    Each reduced cost is taken at both ends of its own rounding, and counts by the lesser term.
+
     Args:
-        x: Values of the columns, by which those are taken to end that have no bound.
-        duals: By row; those without the row bound that they rest on count as 0.
+        x: By column: one without the bound that its reduced cost rests on, which is next to
+            nothing, is taken to end at ASSUMED_BOUND times the size of its value, or of 1.
+        duals: By row, minimised; those without the row bound that they rest on count as 0.
+
+    Returns:
+        Of the objective, minimised, with its constant; minus infinity where a column without bound
+        has a reduced cost.
     """
     reduced_costs = [float(cost) for cost in program.cost_fractions]
     sizes = [abs(cost) for cost in reduced_costs]
@@ -267,16 +306,25 @@ def lower_bound_in_doubles(
 
 
 def _at_bound(value: float, lower: Optional[float], upper: Optional[float]) -> float:
-    """The bound that a value misses by no more than rounding, else the value."""
+    """The bound that a value misses by no more than rounding, else the value itself.
+
+    Rounding is ROUNDING_OF_A_ROW of the value's size, or of 1.
+    """
     missed = violation(value, lower, upper)
     is_rounding = abs(missed) <= ROUNDING_OF_A_ROW * max(1.0, abs(value))
     return value - missed if is_rounding else value
 
 
 def _least_term(cost: float, end: Optional[float], value: float, zero: float) -> float:
-    """The least that a column at `value` adds at this cost; up to twice `zero` that is none.
+    """The least that a column adds to the objective at this reduced cost, in doubles.
 
-    `end` is the bound that the cost rests on, None where the column has no such bound.
+    Args:
+        cost: Its reduced cost, with the rounding on one side of it.
+        end: The bound that the cost rests on; None where the column has no such bound. Then the
+            answer is minus infinity, unless the cost may be rounding alone.
+        value: Of the column, which without a bound is taken to end at ASSUMED_BOUND times the size
+            of this, or of 1.
+        zero: Up to twice this size the cost may be rounding alone.
     """
     if end is not None:
         return cost * end

@@ -1,7 +1,8 @@
 """What is known of one program, and how it is judged: points, bounds, and the claims they make.
 
 Each claim is the text of a certificate that a judge accepts or not. What is known is never thrown
-away: the last claim has the best point and the closest bound.
+away: the last claim has the best point and the closest bound. All certifiers of one task share an
+`EvidenceStore`, and what they yield is `Evidence`.
 """
 
 from __future__ import annotations
@@ -48,7 +49,7 @@ class Judgement(Protocol):
 
     @property
     def line(self) -> str:
-        """What is proved, or why nothing is."""
+        """What is proved, its first word the claim; or why nothing is."""
 
     @property
     def is_proved(self) -> bool:
@@ -70,11 +71,12 @@ class AnswerClaim(enum.Enum):
 
 
 class AnswerByPlace(NamedTuple):
-    """What a solver answered, None where it did not tell.
+    """What a solver answered, by columns and rows of the program; None where it did not tell.
 
     Attributes:
         values: By column; fractions where they are exact.
         duals: By row: rates of change of the objective in its own sense.
+        basis: The solver's last one.
     """
 
     values: Optional[Sequence[Number]] = None
@@ -82,7 +84,7 @@ class AnswerByPlace(NamedTuple):
     basis: Optional[Basis] = None
 
     def doubles(self) -> List[float]:
-        """The values; none where there are none."""
+        """The values by column, as doubles; empty where there are none."""
         return [float(v) for v in self.values or ()]
 
 
@@ -91,11 +93,11 @@ class Evidence(NamedTuple):
 
     Attributes:
         line: The judge's, or `not proved: ..` with the reason.
-        point: That the claim speaks of.
-        certificate: The accepted text.
+        point: By column, that the claim speaks of, whether it is proved or not.
+        certificate: The accepted text, in ASCII, each line with its end; None: nothing is proved.
         figures: Of the certificate, in a line.
         value: The objective of the point in its own sense.
-        duals: By row, rates of change in that sense, where one leaf has them.
+        duals: By row, rates of change in that sense, where one leaf has them; else empty.
         note: Why it is not `optimal`, where that is known.
         contradicts_answer: No point is found that has the answer's integer columns.
         is_optimal_in_doubles: The answer's duals, rounded to the safe side, bound its objective.
@@ -119,19 +121,28 @@ class Evidence(NamedTuple):
 
     @property
     def claim(self) -> str:
-        """The first word of a line that is proved, nothing of another one."""
+        """The word of what is proved, as `optimal`: the first of its line. Empty: nothing is."""
         return self.line.split()[0] if self.is_proved else ""
 
 
 def not_proved(reason: object, point: Optional[Point] = None) -> Evidence:
+    """The evidence that nothing is proved, and why.
+
+    Args:
+        reason: An error, or a text.
+        point: That something was claimed of.
+    """
     return Evidence(f"{NOT_PROVED}{reason}", point)
 
 
 def first_proved(tried: Iterable[Evidence]) -> Evidence:
-    """The first that is proved, else the first; what comes behind it is not tried.
+    """The first evidence that is proved, behind which nothing is tried; else the first of all.
+
+    Args:
+        tried: Makes each when it is asked for it. Where it makes none, that is the reason.
 
     Raises:
-        TimeOver: Before the next is tried.
+        TimeOver: The time of exact work was over after one that is not proved.
     """
     first: Optional[Evidence] = None
     for evidence in tried:
@@ -147,8 +158,8 @@ class BoundEvidence:
     """That no point is better than the value.
 
     Attributes:
-        value: Minimised.
-        lines: Makes the nodes that prove it.
+        value: Minimised, with the objective's constant.
+        lines: Makes the lines of the certificate's nodes that prove it, each time anew.
         figures: Of these, in a line.
         duals: As those of Evidence.
         is_tree: Whether it is more than a leaf.
@@ -166,18 +177,19 @@ class EvidenceStore:
 
     Attributes:
         program: In whole numbers.
-        points: Exact ones that a certificate can hold, the best first.
+        judge: Says of each certificate what it proves.
+        objective: Its number in the file, from 0.
+        deadline: Of whose seconds the judge has a share.
+        points: Exact ones that a certificate can hold, the best first, at most MOST_POINTS.
         bound: The closest that is known.
-        note: Why points and bound are apart.
+        note: Why points and bound are apart, as it is told with what is proved. Once it is set, no
+            more bases are tried for the exact optimum.
     """
 
     def __init__(
         self, program: IntegerProgram, judge: Judge, objective: int, deadline: SearchDeadline
     ) -> None:
-        """
-        Args:
-            objective: Its number in the file, from 0.
-        """
+        """Nothing is known yet; the arguments are the attributes of the same name."""
         self.program = program
         self.judge = judge
         self.objective = objective
@@ -188,24 +200,33 @@ class EvidenceStore:
 
     @property
     def point(self) -> Optional[Point]:
-        """The best that is known."""
+        """The best of `points`; None where there is none."""
         return self.points[0] if self.points else None
 
     def add_point(self, point: Point) -> None:
-        """Of an exact point the best stay, where a certificate can hold them."""
+        """Adds an exact feasible point, by column, to `points`, of which only the best stay.
+
+        Nothing is added where a certificate cannot hold one of its values.
+        """
         if all(map(fits_certificate, point)) and point not in self.points:
             points = sorted([*self.points, point], key=self.program.value)
             self.points = points[:MOST_POINTS]
 
     def add_bound(self, bound: BoundEvidence) -> None:
-        """The closest stays."""
+        """Makes it `bound` where it is closer, that is greater, than the one that is known."""
         if self.bound is None or bound.value > self.bound.value:
             self.bound = bound
 
     def add_leaf(self, leaf: Multipliers, *, is_exact: bool = False) -> None:
-        """The bound of one leaf.
+        """Adds the bound that a leaf has under the program's own bounds.
 
-        It is told in few digits, unless it has few anyway, or `is_exact` says that it is meant.
+        Nothing is added where it is not finite, or a certificate cannot hold a multiplier. The
+        value is rounded to few digits, to the worse side, where it has more than MOST_BOUND_DIGITS
+        in numerator or denominator or a certificate cannot hold it.
+
+        Args:
+            leaf: Duals by row, minimised.
+            is_exact: Whether the value is kept as it is wherever a certificate can hold it.
         """
         box = Box(self.program.lower, self.program.upper)
         bound = dual_bound(self.program, leaf, box)
@@ -218,7 +239,16 @@ class EvidenceStore:
         self.add_bound(self.bound_of_leaf(leaf, value))
 
     def bound_of_leaf(self, leaf: Multipliers, value: Fraction = Fraction(0)) -> BoundEvidence:
-        """A leaf as evidence of a bound, whose value some claims do not tell."""
+        """A leaf as evidence of a bound, which is not added here.
+
+        Args:
+            leaf: By row; duals are minimised.
+            value: What the leaf proves or less, minimised; of no use where the claim is `optimal`
+                or `infeasible`, which do not tell it.
+
+        Returns:
+            With the duals of all rows, in the objective's own sense.
+        """
         sign, numerators = self.program.sign, leaf.numerators
         duals: Dict[int, Fraction] = dict.fromkeys(range(self.program.m), Fraction(0))
         duals.update((i, Fraction(sign * v, leaf.denominator)) for i, v in numerators.items())
@@ -231,9 +261,11 @@ class EvidenceStore:
         )
 
     def claims(self) -> Iterator[Evidence]:
-        """What is known, the strongest claim first.
+        """What is known, the strongest claim first; each is judged when it is asked for.
 
-        A better point may be too wide for a certificate where another one is not.
+        With a bound, `optimal` or `within` by each point, the best first, then the bound alone; at
+        last each point alone. The sums of a better point may be too wide for the judge where those
+        of another one are not.
         """
         if self.bound is not None:
             for point in self.points:
@@ -247,7 +279,14 @@ class EvidenceStore:
     def claim_of_bound(
         self, claim: str, bound: BoundEvidence, point: Optional[Point] = None
     ) -> Evidence:
-        """One claim that rests on a bound: `optimal`, `within`, `bound` or `infeasible`."""
+        """One claim that rests on a bound, judged.
+
+        Args:
+            claim: `optimal` or `within`, which need a point; `bound`, or `infeasible`.
+
+        Returns:
+            With the bound's duals, and but for `optimal` the store's note, proved or not.
+        """
         value = self.program.sign * bound.value if claim in ("within", "bound") else None
         objective = None if claim == "infeasible" else self.objective
         lines = itertools.chain(claim_lines(claim, objective, value, point), bound.lines())
@@ -257,11 +296,11 @@ class EvidenceStore:
     def claim_of_leaf(
         self, claim: str, leaf: Multipliers, point: Optional[Point] = None
     ) -> Evidence:
-        """`optimal` or `infeasible`, by one leaf."""
+        """`optimal` at a point, or `infeasible`, by one leaf, whose duals are minimised; judged."""
         return self.claim_of_bound(claim, self.bound_of_leaf(leaf), point)
 
     def claim_of_tree(self, tree: TreeText, point: Optional[Point] = None) -> Evidence:
-        """`optimal`, and without a point `infeasible`."""
+        """`optimal` at a point, and without one `infeasible`, by a whole tree; judged."""
         figures = f"{tree.strategy} plan, {tree.nodes} nodes, {tree.cuts} rows, {tree.size} bytes"
         if point is None:
             head = claim_lines("infeasible", None)
@@ -270,7 +309,11 @@ class EvidenceStore:
         return self.judged(itertools.chain(head, tree.lines()), figures, point, is_tree=True)
 
     def claim_of_optimum(self, point: Point, leaf: Multipliers) -> Iterator[Evidence]:
-        """Both are exact; where they are too wide for a certificate, the note says so."""
+        """`optimal`, by a point and duals that are exact and of the same value.
+
+        Nothing is claimed where one of their numbers has more than CERTIFICATE_BITS. Sets `note` in
+        each case: to that, or to what the judge said behind its first colon.
+        """
         duals = (Fraction(y, leaf.denominator) for y in leaf.numerators.values())
         bits = bit_width([*point, *duals])
         self.note = too_wide_note(f"{bits} bits")
@@ -280,7 +323,7 @@ class EvidenceStore:
             yield found
 
     def claim_of_ray(self, point: Point, ray: Optional[Point]) -> Evidence:
-        """`unbounded`."""
+        """`unbounded`, by a feasible point and a ray that improves the objective; judged."""
         lines = claim_lines("unbounded", self.objective, None, point, ray)
         return self.judged(lines, "a point and a ray", point)
 
@@ -292,17 +335,23 @@ class EvidenceStore:
         *,
         is_tree: bool = False,
     ) -> Evidence:
-        """A certificate by the judge.
+        """What the judge says of a certificate; all claims are made by this.
 
         Args:
-            lines: Of the certificate.
+            lines: Of the whole certificate, in ASCII and without ends. They are made while the
+                judge reads them.
             figures: Of it, in a line.
             point: That it claims something of.
-            is_tree: Whether judging it may take long.
+            is_tree: Whether judging it may take long: then the judge has only TREE_SHARE of the
+                seconds that are left.
+
+        Returns:
+            With the text, and the value of the point, where it is proved; else with the reason.
         """
         text = bytearray()
 
         def recorded() -> Iterator[str]:
+            """The lines; each is added to `text` before the judge gets it."""
             for line in lines:
                 text.extend(line.encode("ascii"))
                 text.extend(b"\n")
@@ -317,4 +366,9 @@ class EvidenceStore:
 
 
 def too_wide_note(bits: str) -> str:
+    """Why an exact optimum is not claimed.
+
+    Args:
+        bits: How many its numbers have, as `130 bits` or `more than 4000 bits`.
+    """
     return f"the exact optimum needs numbers of {bits}; a certificate holds {CERTIFICATE_BITS}"
