@@ -45,9 +45,7 @@ class BridgeError(Exception):
         return " ".join(self.describe().split("\n"))
 
     def describe(self) -> str:
-        """What it says, made of its values; it may have ends of lines. Classes with values
-        override it.
-        """
+        """What it says, made of its values; it may have ends of lines. Some classes override it."""
         return self.reason
 
     def __str__(self) -> str:
@@ -117,9 +115,7 @@ class WrongWords(WrongOption):
 
 
 class FileAction(enum.Enum):
-    """What was tried with a file; the value is the exit status of a command that ends by its
-    failure.
-    """
+    """What was tried with a file; its value is the exit status of a command that fails so."""
 
     READ = ExitStatus.UNREAD
     WRITE = ExitStatus.UNWRITTEN

@@ -68,11 +68,7 @@ class OutputFiles:
         self.overwrite = overwrite
 
     def check(self, target: str, data: bytes) -> None:
-        """Raises where these bytes may not stand there; before the work whose output they will be.
-
-        Args:
-            target: The path of an output, where something may stand or not.
-            data: What would be written, or its start: only the first LOOKED_AT bytes tell its kind.
+        """Raises where these bytes may not stand at a path, before any of a run's files is written.
 
         Raises:
             FileStays: What stands there stays.
@@ -141,9 +137,10 @@ def start_of(path: str) -> bytes:
 
 
 def is_stream(path: str) -> bool:
-    """Whether what stands there is added to: a device, a pipe, or a file that this process has open.
+    """Whether what stands there is added to: a device, a pipe, or an open file of this process.
 
-    `/dev/stdout` and its kin are streams also where they lead to a plain file.
+    `/dev/stdout` and its kin are streams also where they lead to a plain file. Where nothing stands
+    there is no stream.
     """
     return os.path.exists(path) and (
         not os.path.isfile(path) or OPEN_FILE.fullmatch(os.path.abspath(path)) is not None
@@ -168,9 +165,7 @@ def open_to_append(path: str) -> BinaryIO:
 
 
 def _open_without_terminal(path: str, flags: int) -> int:
-    """An opener of `open`, by which a terminal that is written to does not become this process's
-    own.
-    """
+    """For `open`: a terminal that is written to does not become this process's own."""
     return os.open(path, flags | getattr(os, "O_NOCTTY", 0), MODE_OF_NEW_FILES)
 
 
@@ -246,14 +241,13 @@ def new_text(path: str) -> Iterator[TextIO]:
 
 
 def _holds(target: str, data: bytes) -> bool:
-    """Whether nothing is lost where these bytes replace a file: it is empty, or has them already."""
+    """Whether nothing is lost where these bytes replace a file: it is empty, or has the same."""
     size = os.path.getsize(target)
     return size == 0 or size == len(data) and Path(target).read_bytes() == data
 
 
 def _write_whole(target: str, data: bytes, *, may_replace: bool) -> None:
-    """Puts a file at its place at once or not at all, with its bytes on the disk. No signal breaks
-    it off.
+    """Puts a file at its place at once or not at all, its bytes on the disk; signals wait.
 
     A link stays a link: what it leads to is replaced. A file that nobody may write stays.
 

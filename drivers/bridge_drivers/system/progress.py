@@ -76,8 +76,6 @@ def progress_words(known: Mapping[str, float]) -> str:
 
 
 def gap_percentage(incumbent: float, bound: float) -> float:
-    """How far both are apart, in hundredths of the greater of their sizes; 0 where they are
-    equal.
-    """
+    """How far both are apart, in hundredths of the greater of their sizes; 0 of equal ones."""
     apart = abs(incumbent - bound)
     return 100 * apart / max(abs(incumbent), abs(bound)) if apart else 0.0

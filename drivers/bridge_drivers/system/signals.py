@@ -80,8 +80,7 @@ class SignalGate:
         return self._deferring(is_deferring=True)
 
     def delivered(self) -> contextlib.AbstractContextManager[None]:
-        """A block inside a deferred one in which signals are delivered again, a waiting one at
-        once.
+        """A block inside a deferred one in which signals are delivered again, also one that waits.
 
         Raises:
             Interrupted: At its start or within it, where a signal ends the run.
