@@ -1,6 +1,8 @@
-"""`bridge-certify MODEL [option=value ..]`: a certificate of what is true of a model, and the verdict on it.
+"""`bridge-certify MODEL [option=value ..]`: a certificate of what is true of a model, and the
+verdict on it.
 
-It takes the options of its driver.
+It takes the options of its driver. `CertifyCommand` is that driver's command with other options and
+another end; nl-bridge asks it for help on options.
 """
 
 from __future__ import annotations
@@ -34,7 +36,16 @@ EXAMPLE = "\nexample: {name} mix timelim=60 certificate=mix.certificate\n"
 
 
 class CertifyCommand(DriverCommand):
-    """A call whose answer is certified; it writes no .sol."""
+    """A call whose answer is certified; it writes no .sol.
+
+    Args:
+        solver: The name of the solver, which finds a point.
+        console: Where it prints; None for the standard streams at the time of the call.
+
+    Attributes:
+        prints_certificate: The certificate goes to standard output, and all that is told to
+            standard error.
+    """
 
     usage_text = USAGE
     example_text = EXAMPLE
@@ -48,7 +59,16 @@ class CertifyCommand(DriverCommand):
         self.prints_certificate = False
 
     def take_options(self) -> None:
-        """Where the certificate goes to standard output, all that is told goes to standard error."""
+        """Reads the options.
+
+        The certificate is written to MODEL.certificate unless another place is said.
+
+        For `certificate=-` it is written into the workspace, and messages go to standard error.
+
+        Raises:
+            WrongOption: Something is wrong with them, -AMPL or -s stands among them, or json=1
+                beside `certificate=-`.
+        """
         if self.call.is_ampl or self.call.saves:
             raise WrongOption(f"{NAME} writes no .sol")
         self.call.echoes = False
@@ -64,15 +84,23 @@ class CertifyCommand(DriverCommand):
         self.options.put("certificate", self.workspace.new_path())
 
     def writes_sol(self) -> bool:
+        """It never is."""
         return False
 
     def message_of(self, outcome: Outcome) -> List[str]:
-        """Where it is kept is not told of standard output."""
+        """The lines that are told, without that on the file in the workspace where the certificate
+        is printed.
+        """
         stored = outcome.stored.line if outcome.stored and self.prints_certificate else None
         return [line for line in outcome.lines if line != stored]
 
     def deliver(self, outcome: Outcome) -> int:
-        """Where nothing is proved, nothing is done."""
+        """Writes and tells what is asked for as a driver does, then a line of figures with stats=1,
+        and prints the certificate where that is asked for.
+
+        Returns:
+            The exit status; where nothing is proved it is FAILED.
+        """
         status = super().deliver(outcome)
         if self.options.flag("stats") and outcome.figures:
             seconds = time.process_time()
@@ -86,6 +114,9 @@ class CertifyCommand(DriverCommand):
         return status
 
     def failed(self, error: BridgeError) -> int:
+        """Tells why there is no outcome, and that a file at the certificate's place stays as it
+        was; the exit status.
+        """
         status = super().failed(error)
         path = self.options.text("certificate")
         if os.path.isfile(path) and not self.prints_certificate:
@@ -94,7 +125,13 @@ class CertifyCommand(DriverCommand):
 
 
 def run_certify(argv: Sequence[str], console: Console) -> int:
-    """The exit status of a call; the driver is an option like others, but found first."""
+    """The exit status of a call: finds the option `driver=NAME` among its words, and runs the
+    command of that solver.
+
+    Args:
+        argv: The words behind the command's name.
+        console: Where it prints.
+    """
     word = next(word for word in (*argv, "driver=cbc") if word.startswith("driver="))
     try:
         solver = str(OptionValues(CERTIFY_OPTIONS).known["driver"].read(word.partition("=")[2]))
@@ -104,4 +141,5 @@ def run_certify(argv: Sequence[str], console: Console) -> int:
 
 
 def main() -> None:
+    """The entry point of bridge-certify; it ends the process."""
     run_command(NAME, lambda console: run_certify(sys.argv[1:], console))

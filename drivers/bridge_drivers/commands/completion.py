@@ -1,4 +1,7 @@
-"""Completion of all commands for bash, fish and zsh, made of their tables of words."""
+"""Completion of all commands for bash, fish and zsh, made of their tables of words.
+
+`nl-bridge completion SHELL` prints it; drivers/install and the packages put it where shells look.
+"""
 
 from __future__ import annotations
 
@@ -31,7 +34,12 @@ MODEL_ENDS = [end + packed for end in (".nl", ".mps") for packed in ("", ".gz", 
 
 
 def completion_text(shell: str) -> str:
-    """What a shell reads: of all commands."""
+    """The script of one shell that completes the words of all commands.
+
+    Args:
+        shell: One of `forms.SHELLS`. Its template stands in the folder `texts`, with places for the
+            parts that are made here.
+    """
     tables = CompletionTables()
     made = {"bash": _bash_parts, "fish": _fish_parts, "zsh": _zsh_parts}[shell](tables)
     with open(os.path.join(TEMPLATES, f"completion.{shell}"), encoding="utf-8") as file:
@@ -40,7 +48,14 @@ def completion_text(shell: str) -> str:
 
 
 def completion_path(shell: str, prefix: str, command: str, zsh_folder: str = "") -> str:
-    """Where a shell looks for the completion of a command below a prefix."""
+    """Where a shell looks for the completion of a command below a prefix.
+
+    Args:
+        shell: One of `forms.SHELLS`.
+        prefix: As /usr.
+        command: Its name.
+        zsh_folder: That below share/zsh; "" for site-functions.
+    """
     path = {
         "bash": f"bash-completion/completions/{command}",
         "fish": f"fish/vendor_completions.d/{command}.fish",
@@ -53,11 +68,11 @@ class CompletionTables:
     """What is completed.
 
     Attributes:
-        options: The options of each driver by name.
-        dashed: What else each driver takes, with what it is.
-        known: All options by name.
+        options: The options of each driver by name, by the driver's command.
+        dashed: What else each of these commands takes, with what it is.
+        known: All options of drivers by name.
         commands: The commands of nl-bridge, with what each writes.
-        behind: The words that may follow each of them.
+        behind: The words that may follow each of them, files aside.
     """
 
     def __init__(self) -> None:
@@ -78,13 +93,13 @@ class CompletionTables:
         self.behind["explain"] += sorted(forms.PROVED_WORDS)
 
     def value_lines(self, line: str, files: str, folders: str, words: str) -> str:
-        """A line of each option that has files, folders or known words.
+        """Lines of a script, one for each option that has files, folders or known words.
 
         Args:
-            line: Has the option and what completes it.
+            line: Has the option and what completes it, each at a `%s`.
             files: What completes files.
             folders: What completes folders.
-            words: What completes known words, which stand in it.
+            words: What completes known words, which stand at its `%s`.
         """
         made = []
         for name, option in self.known.items():
@@ -97,13 +112,20 @@ class CompletionTables:
         return "\n".join(made)
 
     def behind_lines(self, line: str) -> str:
-        """A line of each word of nl-bridge that known ones may follow."""
+        """Lines of a script, one for each command of nl-bridge that known words may follow.
+
+        Args:
+            line: Has the command and these words, each at a `%s`.
+        """
         return "\n".join(
             line % (word, " ".join(words)) for word, words in self.behind.items() if words
         )
 
 
 def _options_by_command() -> Dict[str, Mapping[str, Option]]:
+    """The options of each driver, and of bridge-certify (which has those of all), by name, by the
+    command.
+    """
     found = {
         f"bridge-{name}": OptionValues((*COMMON_OPTIONS, *own_options(name))).known
         for name in SOLVERS
@@ -114,6 +136,7 @@ def _options_by_command() -> Dict[str, Mapping[str, Option]]:
 
 
 def _bash_parts(tables: CompletionTables) -> Dict[str, str]:
+    """What stands at the places of bash's template, by their names."""
     made = 'COMPREPLY=($(compgen %s -- "$cur"))'
     files = "compopt -o filenames 2>/dev/null; " + made
     words = made % "-W '%s'"
@@ -131,6 +154,7 @@ def _bash_parts(tables: CompletionTables) -> Dict[str, str]:
 
 
 def _zsh_parts(tables: CompletionTables) -> Dict[str, str]:
+    """What stands at the places of zsh's template, by their names."""
     options = []
     for command, known in tables.options.items():
         listed = _zsh_list({name: option.text for name, option in known.items()}, " " * 12)
@@ -147,7 +171,12 @@ def _zsh_parts(tables: CompletionTables) -> Dict[str, str]:
 
 
 def _zsh_list(words: Mapping[str, str], indent: str) -> str:
-    """Lines of zsh's lists, `'word:what it is'`."""
+    """Lines of zsh's lists, `'word:what it is'`.
+
+    Args:
+        words: What each word is.
+        indent: The blanks in front of a line.
+    """
     lines = []
     for word, text in words.items():
         item = (word.replace(":", "\\:") + ":" + text).replace("'", "'\\''")
@@ -156,6 +185,7 @@ def _zsh_list(words: Mapping[str, str], indent: str) -> str:
 
 
 def _fish_parts(tables: CompletionTables) -> Dict[str, str]:
+    """What stands at the places of fish's template, by their names."""
     lines = []
     for command, known in tables.options.items():
         offered = {}

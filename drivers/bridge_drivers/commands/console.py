@@ -3,6 +3,8 @@
 What is told may hold anybody's words: names of files and models, lines of a solver's log. Controls
 of a terminal in them are shown and not obeyed. What the console makes itself is not escaped: the
 verdict's colour, and the progress line that is rewritten in place.
+
+Each command is run by `run_command`, which gives it its `Console`.
 """
 
 from __future__ import annotations
@@ -76,22 +78,23 @@ class Console:
     # messages -------------------------------------------------------------------------------
 
     def line(self, text: str) -> None:
-        """A line of the message."""
+        """Prints a line of the message, to the destination of messages."""
         self._message(printable(text) + "\n")
 
     def lines(self, texts: Sequence[str]) -> None:
-        """Lines of the message."""
+        """Prints lines of the message, each without its end."""
         self._message("".join(printable(text) + "\n" for text in texts))
 
     def log(self, text: str) -> None:
-        """A piece of a log, which has its own ends of lines."""
+        """Prints a piece of a log, which has its own ends of lines, among the messages."""
         self._message(printable(text))
 
     def verdict(self, line: str, verdict: str = "") -> None:
-        """A line of the message in the colour of a verdict, where that is wanted.
+        """Prints a line of the message, in the colour of a verdict where the terminal has colours.
 
         Args:
-            verdict: Whose colour it has; its own where none is given.
+            line: What is printed, without its end.
+            verdict: The verdict whose colour it has; "" where the line is one.
         """
         if self.is_coloured():
             colour = colour_of(verdict or line).value
@@ -100,14 +103,13 @@ class Console:
             self.line(line)
 
     def message(self, lines: Sequence[str]) -> None:
-        """A message whose last line is its verdict."""
+        """Prints a message whose last line is its verdict; it has one line at least."""
         self.lines(lines[:-1])
         self.verdict(lines[-1])
 
     def is_coloured(self) -> bool:
-        """Whether messages go to a terminal, and its user has not said NO_COLOR.
-
-        See https://no-color.org.
+        """Whether messages go to a terminal, and its user has not said NO_COLOR
+        (https://no-color.org).
         """
         stream = {Destination.OUTPUT: self._output, Destination.ERRORS: self._errors}.get(
             self.destination
@@ -116,6 +118,7 @@ class Console:
         return not wants_none and stream is not None and is_terminal(stream)
 
     def _message(self, text: str) -> None:
+        """Writes a text as it is to the destination of messages."""
         if self.destination is Destination.OUTPUT:
             self._write_output(text)
         elif self.destination is Destination.ERRORS:
@@ -124,16 +127,26 @@ class Console:
     # what is no message ---------------------------------------------------------------------
 
     def output(self, text: str) -> None:
-        """What was asked for on standard output, as help, a certificate or JSON."""
+        """Prints to standard output what was asked for, as help, a certificate or JSON, wherever
+        messages go.
+
+        Raises:
+            BrokenOutput: It takes no more.
+        """
         self._write_output(printable(text))
 
     def error(self, text: str) -> None:
-        """A line on standard error, or several."""
+        """Prints a line to standard error, or several, wherever messages go; the last end is added."""
         self._write_errors(printable(text) + "\n")
 
     @contextlib.contextmanager
     def logging(self, *, with_commands: bool) -> Iterator[None]:
-        """A block in which what the library logs is told: a solver's log, and commands with times."""
+        """A block in which what the library logs is told among the messages.
+
+        Args:
+            with_commands: Also what it logs of commands and times (level DEBUG), not the solver's
+                log alone.
+        """
         handler = _LogHandler(self)
         level = LOGGER.level
         LOGGER.addHandler(handler)
@@ -162,6 +175,7 @@ class Console:
             line.stop()
 
     def _write_output(self, text: str) -> None:
+        """Writes to standard output at once; raises BrokenOutput where that takes no more."""
         try:
             self._output.write(text)
             self._output.flush()
@@ -169,16 +183,23 @@ class Console:
             raise BrokenOutput(fault) from None
 
     def _write_errors(self, text: str) -> None:
+        """Writes to standard error at once; what it does not take is lost."""
         with contextlib.suppress(OSError, ValueError):
             self._errors.write(text)
             self._errors.flush()
 
 
 class ProgressLine:
-    """Shows what goes on, from a thread of its own.
+    """Shows what goes on, from a thread of its own; `Console.progress` starts and stops it.
 
     On a terminal it is one line that is rewritten in place and leaves nothing behind, elsewhere a
-    line each `LINE_SECONDS`.
+    line each LINE_SECONDS.
+
+    Attributes:
+        stream: Standard error.
+        name: Of the command.
+        progress: What the work is at, read while it changes.
+        in_place: One line is rewritten: that is wanted, and the stream is a terminal.
     """
 
     def __init__(self, stream: TextIO, name: str, progress: Progress, *, in_place: bool) -> None:
@@ -194,13 +215,16 @@ class ProgressLine:
         self._thread.start()
 
     def stop(self) -> None:
-        """Nothing is shown any more, and nothing of it is left on a terminal."""
+        """Waits until nothing is shown any more; nothing of it is left on a terminal."""
         self._has_ended.set()
         self._thread.join()
         if self._is_shown:
             self._write(CLEAR_LINE)
 
     def _run(self) -> None:
+        """Shows the progress from time to time until the end, in its own thread; nothing between
+        two stages.
+        """
         wait = FIRST_SECONDS if self.in_place else LINE_SECONDS
         while not self._has_ended.wait(wait):
             if self.progress.stage:
@@ -208,6 +232,7 @@ class ProgressLine:
             wait = EVERY_SECONDS if self.in_place else LINE_SECONDS
 
     def _show(self, line: str) -> None:
+        """Shows one state of the progress: a line without its end, cut to the width of a terminal."""
         if self.in_place:  # in the last column a terminal would begin another line
             self._write(CLEAR_LINE + cut_to_width(line, columns_of(self.stream) - 1))
             self._is_shown = True
@@ -215,6 +240,7 @@ class ProgressLine:
             self._write(line + "\n")
 
     def _write(self, text: str) -> None:
+        """Writes to the stream at once; where it takes no more, nothing is shown from then on."""
         try:
             self.stream.write(text)
             self.stream.flush()
@@ -223,13 +249,17 @@ class ProgressLine:
 
 
 class _LogHandler(logging.Handler):
-    """Tells what the library logs: lines of a solver, which have their own ends, and its own."""
+    """Tells what the library logs: lines of a solver, which have their own ends, and its own.
+
+    What it logs of the progress is not told.
+    """
 
     def __init__(self, console: Console) -> None:
         super().__init__()
         self.console = console
 
     def emit(self, record: logging.LogRecord) -> None:
+        """Prints a record by the logger that it comes from."""
         if record.name == SOLVER_LOGGER.name:
             self.console.log(record.getMessage())
         elif record.name == LOGGER.name:
@@ -237,7 +267,9 @@ class _LogHandler(logging.Handler):
 
 
 def colour_of(verdict: str) -> Colour:
-    """Green what is settled, yellow what is known in part, red what is not proved."""
+    """The colour of a verdict's line: green what is settled, yellow what is known in part, red what
+    is not proved.
+    """
     statement = statement_of(verdict)
     if statement is None:
         return Colour.SETTLED if verdict.startswith(PROVED) else Colour.NOT_PROVED
@@ -245,6 +277,7 @@ def colour_of(verdict: str) -> Colour:
 
 
 def is_terminal(stream: TextIO) -> bool:
+    """Whether a stream is one; a closed one is none."""
     try:
         return stream.isatty()
     except (OSError, ValueError):
@@ -252,7 +285,7 @@ def is_terminal(stream: TextIO) -> bool:
 
 
 def columns_of(stream: TextIO) -> int:
-    """The width of a terminal."""
+    """The width of a terminal in columns; COLUMNS where it does not tell its own."""
     try:
         return os.get_terminal_size(stream.fileno()).columns or COLUMNS
     except (OSError, ValueError):
@@ -260,13 +293,14 @@ def columns_of(stream: TextIO) -> int:
 
 
 def run_command(name: str, command: Callable[[Console], int]) -> NoReturn:
-    """Ends the process with the command's exit status.
+    """Runs a command, and ends the process with its exit status.
 
     A standard output that takes no more is told in one line, unless its reader has gone, and so is
-    a signal.
+    a signal; these have exit statuses of their own.
 
     Args:
         name: Of the command, in these lines.
+        command: Takes the console on which it prints; its answer is the exit status.
     """
     gc.set_threshold(*COLLECTED)
     SIGNALS.install()
@@ -287,7 +321,10 @@ def run_command(name: str, command: Callable[[Console], int]) -> NoReturn:
 
 
 def _standard_console() -> Console:
-    """Of the streams of this process. Bytes of paths that are not UTF-8 are written as they are."""
+    """The console of this process's streams.
+
+    Bytes of paths that are not UTF-8 are written as they are.
+    """
     _open_closed_streams()
     for stream in (sys.stdout, sys.stderr):
         if hasattr(stream, "reconfigure"):
@@ -310,6 +347,7 @@ def _open_closed_streams() -> None:
 
 
 def _text_stream(number: int) -> TextIO:
+    """A text in UTF-8 over an open file by its number, which stays open at its end."""
     return io.TextIOWrapper(io.FileIO(number, "wb", closefd=False), encoding="utf-8")
 
 

@@ -1,4 +1,8 @@
-"""The drivers: `bridge-NAME MODEL [-AMPL] [option=value ..]`."""
+"""The drivers: `bridge-NAME MODEL [-AMPL] [option=value ..]`.
+
+A `DriverCommand` is one call: it reads words and model, has `pipeline.solve` solve it, writes what
+is asked for and tells it. bridge-certify is made of it.
+"""
 
 from __future__ import annotations
 
@@ -71,7 +75,7 @@ SATISFIED = (
 
 
 class DriverCommand:
-    """One call of a driver.
+    """One call of a driver: `main` is called once.
 
     Tests put others in the place of what starts programs.
 
@@ -80,14 +84,18 @@ class DriverCommand:
         console: Where it prints; None for the standard streams at the time of the call.
 
     Attributes:
+        solver: The solver.
         name: Of the command.
         options: What was said of its options.
         call: What the words say.
-        source: The model.
+        monitor: Is told what goes on.
+        workspace: Room for files of the call.
+        source: The model; one without a text where there is none.
         missing: Why there is no model; None where there is one.
         outcome: What was found; None where nothing was.
         error: Why nothing was found; None where something was.
         has_sol: The .sol of this call stands.
+        console: Where it prints.
     """
 
     solve_run_class = SolveRun
@@ -113,16 +121,23 @@ class DriverCommand:
         self.console = console or Console.of_this_process()
 
     def _new_options(self) -> OptionValues:
+        """All options of the command, of which nothing has been said yet."""
         own = own_options(self.solver.name)
         return OptionValues((*COMMON_OPTIONS, *own, *self.further_options))
 
     # the call -------------------------------------------------------------------------------
 
     def main(self, argv: Sequence[str]) -> int:
-        """The exit status of a call.
+        """Runs the call.
 
         With json=1 what it tells goes into an object on standard output, also where other words are
-        wrong, and what else it prints nowhere, or to standard error.
+        wrong, and what else it prints nowhere, or with outlev to standard error.
+
+        Args:
+            argv: The words behind the command's name.
+
+        Returns:
+            The exit status.
         """
         self.console = self._given_console or Console.of_this_process()
         self.call = parse_driver_call(argv)
@@ -144,7 +159,10 @@ class DriverCommand:
         return status
 
     def _said_early(self) -> OptionValues:
-        """The options as far as they are right, before anything is done; json=1 counts wherever it stands."""
+        """The options as far as they are right, before anything is done.
+
+        Where one is wrong, `json` is 1 wherever json=1 stands among the words.
+        """
         said = self._new_options()
         try:
             said.take_environment(self.name)
@@ -154,7 +172,10 @@ class DriverCommand:
         return said
 
     def run(self) -> int:
-        """The exit status of a call that has a model."""
+        """The exit status of a call that has a model; a signal ends it as an error does.
+
+        The workspace is removed at its end.
+        """
         try:
             with self.workspace:
                 return self._run_in_workspace()
@@ -162,7 +183,10 @@ class DriverCommand:
             return self.failed(RunInterrupted(fault.number))
 
     def _run_in_workspace(self) -> int:
-        """The same, before what was made for it is removed."""
+        """The exit status of a call that has a model, before what was made for it is removed.
+
+        Faults of the driver are told as errors, unless outlev=2 shows them.
+        """
         try:
             self._read_model()
             self.take_options()
@@ -177,7 +201,11 @@ class DriverCommand:
             return self.failed(DriverFault(repr(fault)))
 
     def _read_model(self) -> None:
-        """Where there is none, `missing` says why, once options and an older .sol are seen to."""
+        """Opens the model, and sets `source`.
+
+        Where there is none, it sets `missing`, which is raised once options and an older .sol are
+        seen to.
+        """
         word = self.call.model or ""
         try:
             self.source = read_model(word, self.workspace)
@@ -189,7 +217,8 @@ class DriverCommand:
             self.source = missing_source(word)
 
     def take_options(self) -> None:
-        """Reads the options, and tells them where that is asked for.
+        """Reads the options, of the variable and of the words, and tells them where that is asked
+        for.
 
         An older .sol goes once the model can be read, before anything else can go wrong: it must
         not pass for that of this call.
@@ -210,7 +239,7 @@ class DriverCommand:
             remove_older_sol(self.source)
 
     def _check_fit(self) -> None:
-        """Whether what is asked can be had of such a model."""
+        """Raises WrongOption where what is asked cannot be had of such a model."""
         name, is_mps = self.source.name, self.source.is_mps
         form = self.options.text("format")
         if form and not is_mps and self.missing is None:
@@ -224,12 +253,17 @@ class DriverCommand:
             raise WrongOption("shortest=1 is for .nl files: an MPS file is read as it stands")
 
     def writes_sol(self) -> bool:
-        """Whether MODEL.sol is written."""
+        """Whether MODEL.sol is written: with -AMPL, with -s, or by `wantsol`."""
         wanted = bool(self.options.number("wantsol") & WRITE_SOL)
         return self.call.is_ampl or self.call.saves or wanted
 
     def _work(self) -> Outcome:
-        """The outcome; what goes on is shown meanwhile."""
+        """The outcome; what goes on is shown meanwhile, on standard error and with outlev among the
+        messages.
+
+        Raises:
+            BridgeError: There is no model, or no outcome.
+        """
         if self.missing is not None:
             raise self.missing
         level = self.options.number("outlev")
@@ -241,6 +275,11 @@ class DriverCommand:
                 return self._solve()
 
     def _solve(self) -> Outcome:
+        """The outcome by the options; sets what starts the proved program, for the report.
+
+        Raises:
+            BridgeError: There is none.
+        """
         wanted = self.options.run_settings(self.solver.name, writes_sol=self.writes_sol())
         run = self.solve_run_class(self.source, wanted.settings, self.monitor)
         try:
@@ -254,7 +293,14 @@ class DriverCommand:
     # what is told ---------------------------------------------------------------------------
 
     def deliver(self, outcome: Outcome) -> int:
-        """Writes what is asked for, and tells what was found; the exit status."""
+        """Writes what is asked for, and tells what was found. Sets `outcome` and `has_sol`.
+
+        Returns:
+            The exit status; with -AMPL it is 0, since the .sol says the outcome.
+
+        Raises:
+            FileFault: A file cannot be written.
+        """
         self.outcome = outcome
         settings = self.options.run_settings(self.solver.name, writes_sol=self.writes_sol())
         write_outputs(outcome, self.source, settings.outputs, settings.settings.objective)
@@ -263,10 +309,13 @@ class DriverCommand:
         return ExitStatus.DONE if self.call.is_ampl else exit_status(outcome)
 
     def message_of(self, outcome: Outcome) -> List[str]:
-        """The lines that are told."""
+        """The lines that are told of an outcome, the verdict last."""
         return outcome.lines
 
     def _tell(self, outcome: Outcome) -> None:
+        """Prints the message, unless -AMPL or `wantsol` forbids it, the numbers that are wanted,
+        and with outlev=2 the seconds. With failexit=1 MiniZinc's user is told the verdict.
+        """
         fails_by_status = self.options.flag("failexit")
         is_silent = bool(self.options.number("wantsol") & NO_MESSAGE)
         lines = self.message_of(outcome)
@@ -284,7 +333,13 @@ class DriverCommand:
 
     @staticmethod
     def _words_for_minizinc(outcome: Outcome, lines: Sequence[str]) -> str:
-        """The verdict, and before it the answer where that is not sure."""
+        """What MiniZinc's user is told: the verdict, and with code 100 before it the message's
+        first line.
+
+        Args:
+            outcome: What was found.
+            lines: The message.
+        """
         verdict = lines[-1]
         answer = outcome.answer
         if verdict in SATISFIED and answer and not answer.program.has_objective():
@@ -292,7 +347,7 @@ class DriverCommand:
         return f"{lines[0]}; {verdict}" if outcome.code == Code.UNSURE else verdict
 
     def _numbers(self) -> List[str]:
-        """Values and duals, one a line, by their names.
+        """The lines of values and duals that are wanted, each a name and a decimal.
 
         Few values are shown where nobody said what is wanted, as by hand.
         """
@@ -315,9 +370,13 @@ class DriverCommand:
         return lines
 
     def failed(self, error: BridgeError) -> int:
-        """Tells why there is no outcome; the exit status.
+        """Tells why there is no outcome, on standard error and to MiniZinc's user. Sets `error`.
 
-        With -AMPL a .sol with the code is written, and the exit status is 0.
+        With -AMPL a .sol with the code is written beside an .nl file, and the exit status is 0; not
+        after a signal, nor with failexit=1.
+
+        Returns:
+            The exit status.
         """
         self.error = error
         line = f"{self.name}: {error.text}"
@@ -333,7 +392,12 @@ class DriverCommand:
         return error.status
 
     def _report(self, reported: ReportedCall, status: int) -> Report:
-        """What is known at the end, for programs."""
+        """What is known at the end of a call with json=1, an outcome or an error.
+
+        Args:
+            reported: The call, whose seconds have gone on from its beginning.
+            status: The exit status that the command ends with.
+        """
         reported.program = self._bridge_words
         reported.read_model(self.source)
         reported.model = self.source.name or None
@@ -353,7 +417,7 @@ class DriverCommand:
     # help -----------------------------------------------------------------------------------
 
     def usage(self) -> str:
-        """How the command is called."""
+        """How the command is called, in lines."""
         return self.usage_text.format(
             name=self.name,
             title=self.solver.title,
@@ -362,10 +426,11 @@ class DriverCommand:
         )
 
     def help_text(self, kind: HelpKind, topic: str = "") -> str:
-        """What is told instead of a run.
+        """What is told instead of a run, lines with their ends.
 
         Args:
-            topic: An option that help is wanted of alone.
+            kind: Versions, options, or the whole help.
+            topic: An option that help is wanted of alone; "" or any other word for none.
         """
         known = self.options.known
         if topic in known:
@@ -380,7 +445,11 @@ class DriverCommand:
 
 
 def main(solver: str = "") -> None:
-    """Without a name that of the command: bridge-NAME."""
+    """The entry point of all drivers; it ends the process.
+
+    Args:
+        solver: The name of the solver; "" takes it from the name of the command, bridge-NAME.
+    """
     command = os.path.basename(sys.argv[0]).removesuffix(".exe")
     solver = solver or command.removeprefix("bridge-")
     run_command(

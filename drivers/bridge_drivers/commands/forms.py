@@ -1,4 +1,8 @@
-"""The words of nl-bridge: one table, of which help, completions and the man page are made."""
+"""The words of nl-bridge: one table, of which help, completions and the man page are made.
+
+A `CommandForm` is one way to call one command. `nl_bridge` and `front_words` read calls by the
+table.
+"""
 
 from __future__ import annotations
 
@@ -30,7 +34,7 @@ class FrontOption(NamedTuple):
     """What may stand behind a command beside files.
 
     Attributes:
-        words: As they are typed.
+        words: As they are typed, the value of an option behind a blank.
         text: What they do.
     """
 
@@ -39,6 +43,7 @@ class FrontOption(NamedTuple):
 
     @property
     def first_word(self) -> str:
+        """What is typed first, which stands for the option elsewhere: `--html` of `--html FILE`."""
         return self.words.split()[0]
 
 
@@ -53,12 +58,12 @@ class CommandForm(NamedTuple):
 
     Attributes:
         word: The command.
-        rest: What the words behind it are called: those in brackets may be missing, `..` are more of
-            the last one, and `a|b` is one of these words.
+        rest: What the words behind it are called: those in brackets may be missing, `..` are more
+            of the last one, and `a|b` is one of these words.
         text: What it writes.
-        more: More of that.
+        more: More of that, for the help of the command alone; "" for nothing.
         options: What may stand there beside files.
-        example: The words of a call.
+        example: The words of a call, behind `nl-bridge`; "" for none.
     """
 
     word: str
@@ -69,7 +74,12 @@ class CommandForm(NamedTuple):
     example: str = ""
 
     def names(self, count: int) -> List[List[str]]:
-        """What so many words behind the command may be called, in each way."""
+        """What so many words behind the command are called, in each way: none, or once or twice a
+        list of `count` names.
+
+        Args:
+            count: Of the words, options aside.
+        """
         found = []
         for pattern in (r"\[.*?\]", r"[][]"):  # without what may be missing, and with it
             names = re.sub(pattern, "", self.rest).split()
@@ -80,10 +90,11 @@ class CommandForm(NamedTuple):
         return found
 
     def call(self) -> str:
+        """The command with what the words behind it are called."""
         return f"{self.word} {self.rest}".strip()
 
     def sentence(self) -> str:
-        """What it writes, and more of that."""
+        """What it writes, and more of that, for the help of the command and the man page."""
         return f"{self.text}: {self.more}" if self.more else self.text
 
 
@@ -222,17 +233,19 @@ FRONT_STATUSES = (  # those that nl-bridge ends with
 
 
 def forms_of(word: str) -> List[CommandForm]:
-    """The ways to call one command."""
+    """The ways to call one command, in the order of the table; empty of an unknown one."""
     return [form for form in FORMS if form.word == word]
 
 
 def options_of(word: str) -> List[str]:
-    """What may stand behind a command beside files."""
+    """What may stand behind a command beside files, in any of its forms: the first words of
+    options, sorted.
+    """
     return sorted({option.first_word for form in forms_of(word) for option in form.options})
 
 
 def usage() -> str:
-    """The help of nl-bridge."""
+    """The help of nl-bridge as a text: all commands, what a MODEL is, and the exit statuses."""
     return (
         f"usage: {NAME} COMMAND ..\n\nof the proved program:\n{_list_of(PROVED_COMMANDS)}\n"
         f"around it:\n{_list_of(FRONT_COMMANDS)}\n{_wrapped(MODEL, '', 0)}{_status_lines()}"
@@ -243,7 +256,7 @@ def usage() -> str:
 
 
 def help_of(word: str) -> str:
-    """The help of one command; nothing where there is none."""
+    """The help of one command as a text; "" where there is none."""
     forms = forms_of(word)
     if not forms:
         return ""
@@ -259,23 +272,32 @@ def help_of(word: str) -> str:
 
 
 def _options_text(forms: Iterable[CommandForm]) -> str:
-    """What may stand behind a command; nothing where it takes no options."""
+    """The part of a command's help on what may stand behind it; "" where it takes no options."""
     options = {option.words: option.text for form in forms for option in form.options}
     lines = "".join(_wrapped(text, f"  {word}", OPTION_COLUMNS) for word, text in options.items())
     return "\noptions:\n" + lines if lines else ""
 
 
 def _list_of(forms: Iterable[CommandForm]) -> str:
+    """Lines of the help of nl-bridge: each form with what it writes."""
     return "".join(_wrapped(form.text, f"  {form.call()}", FORM_COLUMNS) for form in forms)
 
 
 def _status_lines() -> str:
+    """The part of a help on the exit statuses of nl-bridge."""
     text = "; ".join(f"{int(status)} {STATUS_TEXTS[status]}" for status in FRONT_STATUSES)
     return _wrapped(text, "status: ", len("status: "))
 
 
 def _wrapped(text: str, first: str, indent: int) -> str:
-    """A text behind what it is about, its lines below each other."""
+    """A text behind what it is about, in lines of at most HELP_COLUMNS, with their ends.
+
+    Args:
+        text: What is said.
+        first: What it is about, in front of the first line.
+        indent: The column at which all lines begin; the first one behind `first`, where that is
+            longer.
+    """
     lines = textwrap.fill(
         text,
         HELP_COLUMNS,

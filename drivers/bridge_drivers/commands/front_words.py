@@ -1,4 +1,8 @@
-"""The words that nl-bridge is called with."""
+"""The words that nl-bridge is called with.
+
+`parse_front_call` makes a `FrontCall` of them, and `why_not_callable` compares it with the table in
+`forms`; `nl_bridge` uses both.
+"""
 
 from __future__ import annotations
 
@@ -42,16 +46,27 @@ class FrontCall:
 
 
 def wrong_words(reason: str, word: str, known: Iterable[str]) -> WrongWords:
-    """The error of a word that is not known, with what was probably meant."""
+    """The error of a word that is not known, with what was probably meant.
+
+    Args:
+        reason: What is wrong with it.
+        word: The word.
+        known: What could stand there.
+    """
     names = {**OTHER_NAMES, **forms.OTHER_COMMAND_NAMES}
     return WrongWords(reason, did_you_mean(word, known, names))
 
 
 def parse_front_call(words: Sequence[str]) -> FrontCall:
-    """What the words of a call say. Options may stand anywhere before `--`.
+    """What the words of a call say.
+
+    Options may stand anywhere before `--`, and -v alone is the command `version`.
+
+    Args:
+        words: Those behind the command's name.
 
     Raises:
-        WrongWords: An option is unknown, or the command takes it not.
+        WrongWords: An option is unknown or has no value, or the command takes it not.
     """
     call = FrontCall()
     plain: List[str] = []
@@ -72,7 +87,13 @@ def parse_front_call(words: Sequence[str]) -> FrontCall:
 
 
 def _take_option(call: FrontCall, word: str, left: List[str]) -> bool:
-    """Whether a word is an option, which is taken with the word of its value."""
+    """Whether a word is an option.
+
+    It is noted in `call`, and the word of its value taken from the end of `left`.
+
+    Raises:
+        WrongWords: It begins as an option and is none, or its value is missing.
+    """
     if word in HELP_WORDS:
         call.wants_help = True
     elif word == forms.JSON.words:
@@ -89,7 +110,12 @@ def _take_option(call: FrontCall, word: str, left: List[str]) -> bool:
 
 
 def _take_page(call: FrontCall, word: str, left: List[str]) -> None:
-    """`--html FILE` or `--html=FILE`."""
+    """Takes the place of a page, of `--html FILE` or `--html=FILE`; the next word stands at the end
+    of `left`.
+
+    Raises:
+        WrongWords: There is no next word.
+    """
     name, equals, path = word.partition("=")
     if not equals:
         if not left:
@@ -99,7 +125,9 @@ def _take_page(call: FrontCall, word: str, left: List[str]) -> None:
 
 
 def _check_options(call: FrontCall) -> None:
-    """Whether the command takes the options that were said; with help any will do."""
+    """Raises WrongWords where the command does not take an option that was said; with help any will
+    do.
+    """
     said = [forms.JSON.words] if call.wants_json else []
     if call.overwrites:
         said.append(forms.OVERWRITE.words)
@@ -111,7 +139,11 @@ def _check_options(call: FrontCall) -> None:
 
 
 def why_not_callable(words: Sequence[str]) -> str:
-    """Why no command takes these words, by the table; nothing where one does."""
+    """Why no command takes these words, by the table; "" where one does.
+
+    Args:
+        words: The command, which is in the table, and what stands behind it, options aside.
+    """
     rows = forms.forms_of(words[0])
     takes = f"{words[0]} takes " + (" or ".join(row.rest for row in rows) or "no more")
     found = [
@@ -123,7 +155,14 @@ def why_not_callable(words: Sequence[str]) -> str:
 
 
 def _why_not_these(names: Sequence[str], words: Sequence[str], takes: str) -> str:
-    """Why the words are not what they are called in the table; nothing where they are."""
+    """Why words are not what the table calls them; "" where they are.
+
+    Args:
+        names: What the table calls each of them.
+        words: As many words.
+        takes: What the command takes, in words: the reason where one is none of those that are
+            listed.
+    """
     for name, word in zip(names, words):
         is_number = NUMBER.fullmatch(word) is not None and int(word) <= LARGEST_NUMBER
         if name in NUMBER_NAMES and not is_number:

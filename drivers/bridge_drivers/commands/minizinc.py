@@ -2,6 +2,7 @@
 
 MiniZinc's own standard error is open to its children on Linux, as /proc/PID/fd/2. Where that cannot
 be had, nothing is done: the line stands on this process's standard error too.
+`driver.DriverCommand` tells its verdict, or its error, by `tell_minizinc`.
 """
 
 from __future__ import annotations
@@ -22,10 +23,12 @@ ROOM = 200  # bytes of what MiniZinc writes after its solver has ended
 def tell_minizinc(line: str, *, is_error: bool = False) -> None:
     """Puts a line on MiniZinc's standard error, as one of its comments, where it would be lost.
 
-    Called with -v, MiniZinc passes on what a solver tells.
+    Nothing is done where the parent of this process is not MiniZinc. Called with -v, that passes on
+    what a solver tells.
 
     Args:
-        is_error: It is told in any case.
+        line: Without its end.
+        is_error: It is told with -v, too.
     """
     parent = os.getppid()
     if _told_of(parent, "comm").strip() != PROGRAM:
@@ -39,7 +42,12 @@ def tell_minizinc(line: str, *, is_error: bool = False) -> None:
 
 
 def _told_of(process: int, name: str) -> bytes:
-    """What the system tells of a process; nothing where it does not."""
+    """The bytes of a file that the system has on a process below /proc; none where it has not.
+
+    Args:
+        process: Its number.
+        name: Of the file, as `comm`.
+    """
     try:
         with open(f"/proc/{process}/{name}", "rb") as file:
             return file.read()
@@ -48,10 +56,14 @@ def _told_of(process: int, name: str) -> bytes:
 
 
 def _room_in(process: int, out: int) -> bytes:
-    """A line of blanks that MiniZinc may write over.
+    """A line of blanks that MiniZinc may write over; none where it needs none.
 
     It counts the places of a file by itself, and writes its next lines over what was appended,
     unless it appends too.
+
+    Args:
+        process: The number of MiniZinc's process.
+        out: The number by which this process has opened its standard error.
     """
     flags = 0
     for line in _told_of(process, "fdinfo/2").splitlines():

@@ -1,7 +1,7 @@
 """nl-bridge: what people type.
 
 Help, version, explain and stats are made here; every other command is the proved program's own,
-whose files may be what any command takes.
+whose files may be what any command takes. `run_front` is one call.
 """
 
 from __future__ import annotations
@@ -49,7 +49,15 @@ REFUSALS = "refusals"  # a topic of help
 
 
 def run_front(words: Sequence[str], console: Console) -> int:
-    """The exit status of a call."""
+    """Runs one call of nl-bridge; an error of it is told in one line.
+
+    Args:
+        words: Those behind the command's name.
+        console: Where it prints.
+
+    Returns:
+        The exit status.
+    """
     try:
         call = parse_front_call(words)
         if call.wants_help or call.word == "help":
@@ -66,7 +74,14 @@ def run_front(words: Sequence[str], console: Console) -> int:
 
 
 def _dispatch(call: FrontCall, console: Console) -> int:
-    """The command itself, or the proved program's."""
+    """Runs a command of the table, here or by the proved program; the exit status.
+
+    `verify` and `import` are made here where the proved program cannot do what is asked: another
+    kind of file, JSON, a file that is written.
+
+    Raises:
+        BridgeError: The words do not fit the command, or it has no answer.
+    """
     check_callable(call)
     if call.word == "completion":
         console.output(completion_text(call.rest[0]))
@@ -82,11 +97,7 @@ def _dispatch(call: FrontCall, console: Console) -> int:
 
 
 def check_callable(call: FrontCall) -> None:
-    """Whether a command takes these words.
-
-    Raises:
-        WrongWords: None does.
-    """
+    """Raises WrongWords where the command takes no such words behind it."""
     reason = why_not_callable([call.word, *call.rest])
     if reason:
         is_proved = call.word in forms.PROVED_WORDS
@@ -94,7 +105,12 @@ def check_callable(call: FrontCall) -> None:
 
 
 def _needs_reading(rest: Sequence[str]) -> bool:
-    """Whether `verify` is about what the proved program does not read itself: an MPS file, or a binary .nl file."""
+    """Whether `verify` is about what the proved program does not read itself as an .nl text.
+
+    Args:
+        rest: The words behind `verify`. It is so where the first is a stream, a packed file, an MPS
+            file or a binary .nl file.
+    """
     path = name_of_model(rest[0]) if len(rest) == 2 else ""
     if is_stream(path):
         return True
@@ -107,7 +123,11 @@ def _needs_reading(rest: Sequence[str]) -> bool:
 
 
 def _print_help(call: FrontCall, console: Console) -> int:
-    """The help of a command, of an option of a driver, or of all."""
+    """Prints the help of a command, of an option of a driver, or of all; the exit status.
+
+    Raises:
+        WrongWords: There is no help on the word.
+    """
     topic = call.word
     if call.word == "help":
         topic = call.rest[0] if call.rest else ""
@@ -120,7 +140,7 @@ def _print_help(call: FrontCall, console: Console) -> int:
 
 
 def _help_on(topic: str) -> str:
-    """Nothing where there is none."""
+    """The help on a command, a driver, an option or `refusals` as a text; "" where there is none."""
     if topic in ("", "help"):
         return forms.usage()
     if topic == REFUSALS:
@@ -129,7 +149,7 @@ def _help_on(topic: str) -> str:
 
 
 def _driver_help_on(topic: str) -> str:
-    """Of a driver, or of an option that one has."""
+    """The help of a driver, or on an option that one has; "" where it is neither."""
     name = topic.removeprefix("bridge-")
     if topic != name and name in SOLVERS:
         return DriverCommand(name).help_text(HelpKind.HELP)
@@ -140,7 +160,7 @@ def _driver_help_on(topic: str) -> str:
 
 
 def _any_driver() -> DriverCommand:
-    """bridge-certify, which has the options of all drivers."""
+    """A command of bridge-certify: it has the common options, its own, and those of the first solver."""
     return CertifyCommand(next(iter(SOLVERS)))
 
 
@@ -148,7 +168,11 @@ def _any_driver() -> DriverCommand:
 
 
 def _print_report(call: FrontCall, console: Console) -> int:
-    """Makes a report and prints it, as text or as JSON; the exit status."""
+    """Makes a report and prints it, as text or as JSON; the exit status.
+
+    Raises:
+        BridgeError: There is none, and the error has no report either.
+    """
     try:
         report = REPORTS[call.word](call)
     except BridgeError as error:
@@ -170,9 +194,14 @@ def _print_report(call: FrontCall, console: Console) -> int:
 
 
 def _print_failure(call: FrontCall, report: Report, console: Console) -> int:
-    """Why there is no report stands on standard error, also beside JSON.
+    """Prints why there is no report, on standard error, also beside JSON; the exit status.
 
     What explain is about, that a model is refused, is its answer: it stands on standard output.
+
+    Args:
+        call: What was asked.
+        report: That of the error.
+        console: Where it prints.
     """
     is_answer = call.word == "explain" and report.status == ExitStatus.REFUSED
     if call.wants_json or not is_answer:
@@ -186,9 +215,11 @@ def _print_failure(call: FrontCall, report: Report, console: Console) -> int:
 
 
 def _explained(call: FrontCall) -> Report:
-    """What a certificate says, where there are a model and one; else why a call is refused.
+    """The report of `explain`: on a call of another command, on a model alone or with an
+    objective's number (as `export` takes it), or on a certificate.
 
-    Of a model alone the call is that of `export`.
+    Raises:
+        BridgeError: The call or the model is refused, or a file cannot be read.
     """
     rest = call.rest
     if len(rest) > 1 and rest[0] in forms.PROVED_WORDS:
@@ -208,7 +239,11 @@ def _explained(call: FrontCall) -> Report:
 
 
 def _version(call: FrontCall) -> Report:
-    """Program, sum, toolchain and drivers, one a line."""
+    """The report of `version`: program, sum, toolchain and drivers, one a line.
+
+    Raises:
+        NotInstalled: The proved program is nowhere.
+    """
     place = find_program()
     reported = ReportedCall(NAME)
     reported.program = place
@@ -233,7 +268,11 @@ def _version(call: FrontCall) -> Report:
 
 
 def _toolchain_words(facts: Mapping[str, str]) -> str:
-    """By what the program was built and proved, by the note on it."""
+    """By what the program was built and proved, in words.
+
+    Args:
+        facts: The note on its build; empty where there is none.
+    """
     if not facts:
         return "not told: there is no note on this program, so that it may not be proved"
     toolchain = facts.get("toolchain") or "not told"
@@ -243,7 +282,12 @@ def _toolchain_words(facts: Mapping[str, str]) -> str:
 
 
 def _imported(call: FrontCall) -> Report:
-    """An MPS text into a file, with its names beside it."""
+    """The report of `import FILE NL`: an MPS text is written into an .nl file, with its names
+    beside it.
+
+    Raises:
+        BridgeError: It is refused, or a file cannot be read or written.
+    """
     reported = ReportedCall(NAME)
     reported.model = call.rest[0]
     with api.opened_bridge(reported) as (bridge, workspace):
@@ -254,10 +298,12 @@ def _imported(call: FrontCall) -> Report:
 
 
 def _verified(call: FrontCall) -> Report:
+    """The report of `verify` on a model of any kind."""
     return api.verify(call.rest[0], call.rest[1])
 
 
 def _statistics(call: FrontCall) -> Report:
+    """The report of `stats`, of the first objective where no number (from 0) is said."""
     objective = int(call.rest[1]) if len(call.rest) > 1 else 0
     return api.figures(call.rest[0], objective=objective)
 
@@ -275,7 +321,14 @@ REPORTS: Mapping[str, Callable[[FrontCall], Report]] = {
 
 
 def _plain_files(workspace: Workspace, words: Sequence[str]) -> List[str]:
-    """The words behind a command of the proved program, files as plain ones."""
+    """The words behind a command of the proved program, with its files as plain ones that it can
+    read.
+
+    Args:
+        workspace: Where copies are made; it has to outlive the call.
+        words: The command, and the words behind it; without a form of the table that fits, none are
+            answered.
+    """
     for form in forms.PROVED_COMMANDS:
         for names in form.names(len(words) - 1):
             if form.word == words[0]:
@@ -284,7 +337,19 @@ def _plain_files(workspace: Workspace, words: Sequence[str]) -> List[str]:
 
 
 def _plain_file(workspace: Workspace, name: str, word: str) -> str:
-    """The path of a plain file with the text of a word, which its table calls so."""
+    """The path of a plain file with the text of a word, in UTF-8; a number stays as it is.
+
+    What is packed, or a stream, is copied into the workspace, and a path that is not UTF-8 has a
+    link there.
+
+    Args:
+        workspace: Where that is made.
+        name: What the table calls the word: NL and FILE may be stubs.
+        word: As the user has it.
+
+    Raises:
+        OSError, BridgeError: It cannot be read.
+    """
     if name in NUMBER_NAMES:
         return word
     path = name_of_model(word) if name in STUB_NAMES and not os.path.isfile(word) else word
@@ -294,9 +359,19 @@ def _plain_file(workspace: Workspace, name: str, word: str) -> str:
 
 
 def _pass_on(place: Sequence[str], words: Sequence[str], console: Console) -> int:
-    """The proved program over these files, its texts as they are; what else there is to say of a fault is added.
+    """Runs the proved program over these files, its texts as they are.
+
+    Where it refuses one, a line says what tells more.
 
     A signal that ended the program ends this one.
+
+    Args:
+        place: The words that start the program.
+        words: The command and its words as the user has them.
+        console: Where it prints.
+
+    Returns:
+        The program's exit status.
     """
     with Workspace() as workspace:
         call = [words[0], *_plain_files(workspace, words)]
@@ -314,12 +389,19 @@ def _pass_on(place: Sequence[str], words: Sequence[str], console: Console) -> in
 def _run_proved_program(
     place: Sequence[str], call: Sequence[str], words: Sequence[str], console: Console
 ) -> int:
-    """Its status. A verdict is in colour on a terminal, and a file that cannot be read is told with its cause.
+    """Runs the proved program and passes on what it writes; its exit status, below 0 after a
+    signal.
+
+    A verdict is in colour on a terminal, and a file that cannot be read is told with its cause.
 
     Args:
         place: The words that start it.
         call: The words of the call, with paths that it can read.
         words: The same as the user knows them.
+        console: Where it prints, unless the program's own streams are left to it.
+
+    Raises:
+        NotStarted: It cannot be run.
     """
     files = files_of_call(call)
     has_fault = any(map(read_fault, files))
@@ -343,4 +425,5 @@ def _run_proved_program(
 
 
 def main() -> None:
+    """The entry point of nl-bridge; it ends the process."""
     run_command(NAME, lambda console: run_front(sys.argv[1:], console))

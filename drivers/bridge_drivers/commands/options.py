@@ -1,4 +1,9 @@
-"""The options of the drivers as words: what each may be, what it is where nothing is said, and its help."""
+"""The options of the drivers as words: what each may be, what it is where nothing is said, and its
+help.
+
+`driver` and `certify` read their words by an `OptionValues`, whose settings
+`pipeline.option_values` makes; `completion` and the help of nl-bridge have the tables.
+"""
 
 from __future__ import annotations
 
@@ -43,18 +48,18 @@ OTHER_NAMES: Mapping[str, str] = {
 
 @dataclass(frozen=True)
 class AnyText:
-    """Any text.
+    """Any text, or one of a few.
 
     Attributes:
-        title: What it is.
-        known: All that it may be, where they are few.
+        title: What it is, in front of `is wanted`.
+        known: All that it may be, where they are few; empty for anything.
     """
 
     title: str = "a text"
     known: Sequence[str] = ()
 
     def read(self, word: str) -> Value:
-        """The value of a word; ValueError where it is none."""
+        """The value of a word; ValueError where it is none of this kind."""
         if self.known and word not in self.known:
             raise ValueError(word)
         return word
@@ -62,10 +67,10 @@ class AnyText:
 
 @dataclass(frozen=True)
 class NumberRange(AnyText):
-    """Numbers of a kind.
+    """Numbers from one to another, both included; infinite ones are none.
 
     Attributes:
-        number: The kind.
+        number: The kind, int or float.
         low: The least of them.
         high: The greatest of them; infinite where there is none.
     """
@@ -75,6 +80,7 @@ class NumberRange(AnyText):
     high: float = math.inf
 
     def read(self, word: str) -> Value:
+        """The number that a word writes; ValueError where it is none of these."""
         value: Union[int, float] = self.number(word)
         if not self.low <= value <= self.high or math.isinf(value):
             raise ValueError(word)
@@ -82,12 +88,14 @@ class NumberRange(AnyText):
 
 
 def choice(*known: str) -> AnyText:
-    """One of a few words."""
+    """The kind of one of a few words."""
     return AnyText(alternatives(known), known)
 
 
 def whole_numbers(low: int, high: float = math.inf) -> NumberRange:
-    """Whole numbers from one to another, both included."""
+    """The kind of whole numbers from one to another, both included; up to MOST_LISTED of them are
+    listed one by one.
+    """
     if high - low < MOST_LISTED:
         known = [str(number) for number in range(low, int(high) + 1)]
         return NumberRange(alternatives(known), known, int, low, high)
@@ -96,7 +104,7 @@ def whole_numbers(low: int, high: float = math.inf) -> NumberRange:
 
 
 def numbers(low: int, high: float = math.inf) -> NumberRange:
-    """Numbers from one to another, both included."""
+    """The kind of numbers from one to another, both included."""
     end = "on" if math.isinf(high) else f"to {high}"
     return NumberRange(f"a number from {low} {end}", (), float, low, high)
 
@@ -130,7 +138,7 @@ class Option:
         """The value of a word.
 
         Raises:
-            WrongOption: It is none.
+            WrongOption: It is none of the option's kind.
         """
         try:
             return self.kind.read(word)
@@ -138,16 +146,19 @@ class Option:
             raise WrongOption(f"{self.name}={word}: {self.kind.title} is wanted") from None
 
     def values(self) -> str:
-        """Its values, and what it is where nothing is said: `(0 or 1; 0)`."""
+        """Its values, and what it is where nothing is said: `(0 or 1; 0)`.
+
+        A default of "" is not told.
+        """
         default = f"{self.default:g}" if isinstance(self.default, (int, float)) else self.default
         return f"({self.kind.title}; {default})" if default else f"({self.kind.title})"
 
     def line(self) -> str:
-        """It in a line, for `-=`."""
+        """It in a line without an end, for `-=`."""
         return f"{self.name:<11} {self.text} {self.values()}"
 
     def paragraph(self) -> str:
-        """The same for people, in lines of one width."""
+        """The same for people, in lines of at most HELP_COLUMNS with their ends."""
         text = textwrap.fill(
             self.line(),
             HELP_COLUMNS,
@@ -281,19 +292,23 @@ CERTIFY_OPTIONS: Sequence[Option] = (
 
 
 def own_options(solver: str) -> List[Option]:
-    """The options of a driver that others do not have."""
+    """The options of a driver that not all others have.
+
+    Args:
+        solver: The name of the solver.
+    """
     return [SOLVER_OPTIONS[option] for option in SOLVERS[solver].options]
 
 
 class OptionValues:
-    """The options of one call, and what was said of them.
+    """The options of one call, and what was said of them. `values[name]` is what an option is.
 
     Args:
         options: Of two with the same name the later one counts.
 
     Attributes:
         known: The options by name, in the order of the names.
-        echo: What was said, as `name=value`.
+        echo: What was said, as `name=value`, in the order in which it was.
     """
 
     def __init__(self, options: Iterable[Option]) -> None:
@@ -315,7 +330,7 @@ class OptionValues:
         return self.known[name]
 
     def take(self, words: Iterable[str]) -> None:
-        """Takes what words say: `a=1`, `a = 1`, `a =1` and `a 1`.
+        """Takes what words say: `a=1`, `a = 1`, `a =1` and `a 1`. What is said later counts.
 
         Raises:
             WrongOption: A word is no option, or a value is none. What stands before it is taken.
@@ -346,7 +361,9 @@ class OptionValues:
             self.take(words)
 
     def put(self, name: str, value: Value) -> None:
-        """What an option is from now on, whatever was said."""
+        """Sets what an option is from now on, whatever was said; it counts as given, and is not
+        told.
+        """
         self._given[name] = value
 
     def is_given(self, name: str) -> bool:
@@ -354,22 +371,23 @@ class OptionValues:
         return name in self._given
 
     def __getitem__(self, name: str) -> Value:
+        """What an option is: what was said last, else its default. KeyError of an unknown one."""
         return self._given.get(name, self.known[name].default)
 
     def flag(self, name: str) -> bool:
-        """Of an option that is on or off."""
+        """Whether an option that is on or off is on."""
         return bool(self[name])
 
     def number(self, name: str) -> int:
-        """Of an option that is a whole number."""
+        """What an option is that is a whole number."""
         return int(self[name])
 
     def text(self, name: str) -> str:
-        """Of an option that is a text."""
+        """What an option is that is a text."""
         return str(self[name])
 
     def run_settings(self, solver: str, *, writes_sol: bool) -> RunSettings:
-        """How the model is solved and what is written.
+        """How the model is solved and what is written, by the options of the call.
 
         Args:
             solver: The name of the solver.

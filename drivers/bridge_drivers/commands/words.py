@@ -1,4 +1,7 @@
-"""The words that a driver is called with."""
+"""The words that a driver is called with.
+
+`driver.DriverCommand` makes a `DriverCall` of them, before it knows the options.
+"""
 
 from __future__ import annotations
 
@@ -40,7 +43,7 @@ class DriverCall:
         echoes: The options are told.
         help_kind: What is told instead of a run; None where the model is solved.
         help_topic: The option that help is wanted of; "" for all.
-        options: The words that say options.
+        options: The words that say options, in order, as `OptionValues.take` reads them.
     """
 
     model: Optional[str] = None
@@ -57,7 +60,11 @@ def parse_driver_call(argv: Sequence[str]) -> DriverCall:
 
     What is `name=value`, or begins with `-`, is an option, the first other word the model, and what
     follows it options of the form `name value`. After `--` nothing begins with `-`, and the first
-    word is the model.
+    word is the model unless there is one. `help` alone in front is a call for help, unless a file
+    has that name.
+
+    Args:
+        argv: The words behind the command's name.
     """
     call = DriverCall()
     if argv[:1] == ["help"] and not any(map(os.path.exists, ("help", "help.nl"))):
@@ -77,7 +84,13 @@ def parse_driver_call(argv: Sequence[str]) -> DriverCall:
 
 
 def _take_plain_words(call: DriverCall, left: List[str]) -> None:
-    """All that is left, in which nothing begins with `-`."""
+    """Takes all words that are left, in which nothing begins with `-`: the model, where there is
+    none yet, and options.
+
+    Args:
+        call: Is told of them.
+        left: The words in reverse order; it is empty then.
+    """
     while left:
         word = left.pop()
         if call.model is None:
@@ -87,7 +100,9 @@ def _take_plain_words(call: DriverCall, left: List[str]) -> None:
 
 
 def _take_flag(call: DriverCall, word: str) -> bool:
-    """Whether a word is one of the three that modelling systems say."""
+    """Whether a word is one of the three that modelling systems say (-AMPL, -s, -e); it is noted in
+    `call`.
+    """
     if word == "-AMPL":
         call.is_ampl = True
     elif word == "-s":
@@ -100,7 +115,13 @@ def _take_flag(call: DriverCall, word: str) -> bool:
 
 
 def _take_word(call: DriverCall, word: str, left: List[str]) -> None:
-    """An option with the words of its value, or the model."""
+    """Takes an option with the words of its value, or the model.
+
+    Args:
+        call: Is told of it.
+        word: The word.
+        left: The words behind it, in reverse order; those of a value are taken.
+    """
     has_dash = word.startswith("-") and word != "-"
     has_value_behind = bool(left) and left[-1].startswith("=")
     if has_dash or ASSIGNMENT.match(word) or has_value_behind:
@@ -112,7 +133,12 @@ def _take_word(call: DriverCall, word: str, left: List[str]) -> None:
 
 
 def _words_of_value(word: str, left: List[str]) -> List[str]:
-    """The words of an option's value, where that is not in the word itself; they are taken from `left`."""
+    """The words of an option's value, `=` among them, where that is not in the word itself.
+
+    Args:
+        word: That begins the option.
+        left: The words behind it, in reverse order; these are taken from it.
+    """
     _, equals, value = word.partition("=")
     if value or not left:
         return []

@@ -236,7 +236,8 @@ class IterativeRefinement:
         point: By column, whole numbers over 2 to the power of PRECISION_BITS.
         duals: The same by row, minimised.
         slack_rows: The rows that are no equations, whose columns stand behind the others.
-        primal_shift: The power of two by which residuals of the point were scaled up last.
+        primal_shift: The exponent of the power of two by which residuals of the point were scaled
+            up last; 0 before the first round.
         dual_shift: The same of the duals.
         basis: Of the last round, by the program's own columns and rows.
     """

@@ -77,8 +77,8 @@ class Pseudocosts:
     def mean(self, direction: int) -> float:
         """What stands for the pseudocost of a column of which nothing is known in that direction.
 
-        The mean of the pseudocosts of all other columns, each of which counts once; it is
-        UNKNOWN_PSEUDOCOST where there are none.
+        That is the mean of the pseudocosts that are known there, where each column counts once;
+        UNKNOWN_PSEUDOCOST where none is.
         """
         means = [gain.total / gain.times for gain in self.gains[direction].values()]
         return sum(means) / len(means) if means else UNKNOWN_PSEUDOCOST
@@ -93,7 +93,8 @@ class Candidate(NamedTuple):
 
     Attributes:
         score: The `product_score` of both gains.
-        tie: Its distance from an integer times its entries and 1; 0 after strong branching.
+        tie: The distance of its value from an integer, times one more than the count of its
+            entries; 0 after strong branching.
         column: Or a form, behind the columns.
         down: What the dual bound gains downwards, by pseudocosts or strong branching, in units of
             the objective; infinite where strong branching found the branch infeasible.

@@ -89,6 +89,10 @@ class Certifier:
     """
 
     def __init__(self, task: CertificationTask) -> None:
+        """
+        Args:
+            task: The program, the solver's answer and the limits, which all certifiers share.
+        """
         self.task = task
         self.store = task.store
         self.refuter = Refuter(task)

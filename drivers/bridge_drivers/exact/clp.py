@@ -77,7 +77,10 @@ class ClpNotInstalled(NotInstalled):
 
 
 class LpStatus(enum.Enum):
-    """How a relaxation ended; the values are CLP's own, but for the last."""
+    """How the last solve of a relaxation ended; the values are CLP's own, but for the last.
+
+    It is what CLP says in doubles, by its tolerances: a proof is made elsewhere.
+    """
 
     OPTIMAL = 0
     INFEASIBLE = 1
@@ -188,14 +191,17 @@ class Clp:
             self.model = None
 
     def limit(self, deadline: Deadline) -> None:
-        """Sets `seconds` to what the deadline has left now.
+        """Sets `seconds`, that each later solve may take, to what the deadline has left now.
 
-        A solve gets at least LEAST_SOLVE_SECONDS and at most MOST_SOLVE_SECONDS so.
+        That is at least LEAST_SOLVE_SECONDS, and at most MOST_SOLVE_SECONDS.
         """
         self.seconds = min(max(deadline.left(), LEAST_SOLVE_SECONDS), MOST_SOLVE_SECONDS)
 
     def set_tolerance(self, tolerance: float) -> None:
-        """By how much rows and bounds may be missed (CLP's primal tolerance), in CLP's units."""
+        """Sets by how much later solves may miss rows and bounds: CLP's primal tolerance.
+
+        It is in CLP's units, where columns with small bounds are multiplied.
+        """
         self.lib.Clp_setPrimalTolerance(self.model, tolerance)
 
     def set_bounds(self, column: int, lower: DoubleBound, upper: DoubleBound) -> None:
@@ -310,11 +316,11 @@ class Clp:
     def warm_start(self, basis: Basis, x: Sequence[float]) -> None:
         """The next solve begins from this basis.
 
-        A column that is not basic stands at the bound near x, and a row at its lower bound where it
-        has one, else at the upper.
+        A column that is not basic stands at its bound that is nearer to x, and a row at its lower
+        bound where it has one, else at the upper.
 
         Args:
-            x: By column.
+            x: By column; only values of columns that are not basic are looked at.
         """
         statuses = bytearray([VariableStatus.BASIC] * (self.n + self.m))
         is_basic = set(basis.columns)

@@ -71,7 +71,7 @@ class ProvedCut(NamedTuple):
         return Row(self.coefficients, None, self.rhs)
 
     def trees(self) -> Sequence[Tree]:
-        """The trees of its proof, as far as rows are used there: of an MIR cut its two leaves."""
+        """The trees of its proof, for the rows that they use; of an MIR cut one for each leaf."""
         if isinstance(self.proof, MIRProof):
             return [self.proof.low], [self.proof.high]
         return (self.proof,)
@@ -122,9 +122,9 @@ class ObjectiveCutoff:
             self.rows = [Row(lattice.coefficients, None, self.rhs)]
 
     def open_rows(self) -> List[Row]:
-        """`rows` without their bound, in the places of the search.
+        """`rows` in the same places, but without their bound.
 
-        So the relaxation's dual bound can come beyond the value.
+        Relaxations and searches stand below these: so their dual bounds can come beyond the value.
         """
         return [Row(row.coefficients) for row in self.rows]
 
@@ -154,6 +154,11 @@ class RootCutLoop:
     def __init__(
         self, program: IntegerProgram, objective: ObjectiveCutoff, deadline: SearchDeadline
     ) -> None:
+        """
+        Args:
+            objective: What no point is to be better than; its row stands above all cuts.
+            deadline: Is asked at each cut, and told the progress.
+        """
         self.program = program
         self.objective = objective
         self.deadline = deadline
@@ -197,8 +202,9 @@ class RootCutLoop:
     ) -> List[ProvedCut]:
         """Rounds of cuts, until they close the gap, gain no more, or the time is over.
 
-        A round that closes less than LEAST_GAP_SHARE of the gap is stalled: after more than
-        `most_stalled` in a row, or a round without a new cut, there is no other one.
+        A round that closes less than LEAST_GAP_SHARE of what is left of the gap is stalled: after
+        more than `most_stalled` in a row, or a round without a new cut, there is no other one. Sets
+        `dual_bound` in each round.
 
         Args:
             kinds: Of the cuts that are looked for.
@@ -263,7 +269,8 @@ class RootCutLoop:
     ) -> Iterator[Cut]:
         """The cuts that a round may try: clique cuts, then MIR cuts, of each the deepest first.
 
-        It goes on until one round has as many of a kind as it may have.
+        It goes on until the caller has proved CLIQUES_OF_A_ROUND of the former, and then
+        MIR_CUTS_OF_A_ROUND of the latter.
 
         Args:
             used: The cuts that are proved in this round, to which the caller adds while it takes

@@ -182,7 +182,7 @@ class LeafProver:
         return bound.numerator - least
 
     def _cost_scale(self, multipliers: Multipliers) -> int:
-        """The factor of numerators in reduced costs, as in `dual_bound`; 1 of Farkas multipliers."""
+        """By what `dual_bound` multiplies numerators in reduced costs; 1 of Farkas multipliers."""
         return 1 if multipliers.is_farkas else self.program.cost_scale
 
     def _size(self, row: int, numerator: int) -> int:

@@ -1,5 +1,10 @@
 """What is true of a linear program: its exact optimum, from short numbers, from a basis, or by the
 simplex method in fractions; else a point and a bound in short numbers.
+
+`Certifier` has one `LinearCertifier`, which it asks where the program has no integer columns; the
+certifier of integer programs adds bounds of the relaxation by it. What is tried is yielded as
+evidence, proved or not, of which the caller takes the first that is proved. Short numbers are such
+as a certificate can hold, in few digits.
 """
 
 from __future__ import annotations
@@ -26,14 +31,24 @@ MOST_REFINED_ENTRIES = 200_000  # of a program whose bases are refined
 
 
 class FarPoint(NamedTuple):
-    """A short point that is not near the bound; they are ordered by their objectives."""
+    """A short point that is not near the bound; they are ordered by their objectives.
+
+    Attributes:
+        value: The objective there, minimised.
+    """
 
     value: Fraction
     point: Point
 
 
 class LinearCertifier:
-    """Certifies one linear program, in an order in which what is likely comes first."""
+    """Certifies one linear program, in an order in which what is likely comes first.
+
+    Attributes:
+        store: Points and bounds that are known, to which all is added, and the note that says why
+            no exact optimum is claimed. Where there is a note, no more bases are tried.
+        refuter: Of the same program: shows that it has no point, or no bound.
+    """
 
     def __init__(self, task: CertificationTask, refuter: Refuter) -> None:
         self.task = task
@@ -42,14 +57,18 @@ class LinearCertifier:
         self.refuter = refuter
 
     def certify_from_point(self, point: Point) -> Iterator[Evidence]:
-        """What follows from a feasible point."""
+        """What is proved from a feasible point, as of an answer with these values alone."""
         return self.certify(AnswerByPlace(point))
 
     def certify(self, answer: AnswerByPlace) -> Iterator[Evidence]:
-        """`optimal`, else the strongest claims that can be had.
+        """`optimal`, else `unbounded`, else the strongest claims that can be had.
 
-        Short numbers near the answer come first, then bases, then fractions; of a large program a
-        basis at once. Where its exact numbers are too wide, a point and a bound in short ones.
+        Short numbers near the answer come first, then bases, then fractions; of a large program the
+        answer's basis at once. Where the optimum's exact numbers are too wide, or it is not found,
+        a point and a bound in short ones.
+
+        Args:
+            answer: Without values where the solver gave none.
         """
         is_large = self._is_large()
         if is_large and answer.basis is not None and answer.values is not None:
@@ -64,7 +83,11 @@ class LinearCertifier:
         yield from self._by_short_numbers(clp)
 
     def _by_exact_optimum(self, answer: AnswerByPlace, clp: Optional[Clp]) -> Iterator[Evidence]:
-        """`optimal` from bases, or of a small program by the simplex method in fractions."""
+        """`optimal` from bases, or of a small program by the simplex method in fractions.
+
+        Args:
+            clp: The relaxation at its optimum; None: it has none, and no basis is tried.
+        """
         if clp is not None:
             yield from self.by_bases(self.bases(clp))
         if not self.store.note and is_small(self.program):
@@ -74,7 +97,11 @@ class LinearCertifier:
             yield from self.refuter.by_rational_simplex(start)
 
     def by_bases(self, bases: Iterable[NearBasis]) -> Iterator[Evidence]:
-        """`optimal` by the first basis that is exactly optimal, where its numbers are narrow."""
+        """`optimal` by the first basis that is exactly optimal, where a certificate can hold it.
+
+        The store's note is set where that is found to be too wide. Nothing is tried where there is
+        a note already.
+        """
         if self.store.note:
             return
         for basis, x in bases:
@@ -89,29 +116,45 @@ class LinearCertifier:
             return
 
     def bases(self, clp: Clp) -> Iterator[NearBasis]:
-        """CLP's, then such that come nearer to the exact optimum (iterative refinement)."""
+        """CLP's basis, then such that come nearer to the exact optimum (iterative refinement).
+
+        Args:
+            clp: The relaxation at its optimum, from whose basis refinement goes on; of a program
+                with more than MOST_REFINED_ENTRIES coefficients it is the only one.
+        """
         yield NearBasis(clp.basis(), clp.values())
         if self.program.matrix.count <= MOST_REFINED_ENTRIES:
             yield from IterativeRefinement(self.program, clp, self.task.deadline).bases()
 
     def add_short_duals(self, found: Iterable[ShortDuals]) -> None:
-        """Their bounds to what is known."""
+        """Adds the bound of each to the store, which keeps the closest."""
         for duals in found:
             self.store.add_leaf(duals.multipliers)
 
     def add_box_bound(self) -> None:
-        """The bound that bounds of columns have by themselves."""
+        """Adds to the store the bound that bounds of columns give by themselves, if it is finite.
+
+        Asked for at last, where no closer one may be known.
+        """
         value = box_bound(self.program)
         if value is not None:
             self.store.add_bound(self.store.bound_of_leaf(NO_MULTIPLIERS, value))
 
     def _is_large(self) -> bool:
-        """Whether a basis is tried before short numbers."""
+        """Whether a basis is tried before short numbers: the program has many coefficients, a cost,
+        and SciPy is there."""
         is_large = self.program.matrix.count > LARGE_ENTRIES
         return is_large and can_lift() and any(self.program.costs)
 
     def _by_short_numbers(self, clp: Optional[Clp]) -> Iterator[Evidence]:
-        """A point and a bound in short numbers, and what is known at last."""
+        """`within` by a point and a bound in short numbers, then what is known at last.
+
+        Where no point is known, a refutation is tried, and what follows from a point that its search
+        finds. Each claim has the store's note, which says why it is not `optimal`.
+
+        Args:
+            clp: The relaxation at its optimum; None: it has none.
+        """
         self.store.note = self.store.note or "no basis was found that is exactly optimal"
         if clp is not None:
             deadline = self.task.deadline
@@ -125,7 +168,13 @@ class LinearCertifier:
         yield from self.store.claims()
 
     def _by_points(self, answer: AnswerByPlace, clp: Optional[Clp]) -> Iterator[Evidence]:
-        """Narrow points, each with a leaf that meets it."""
+        """`optimal` at each point that a certificate can hold and whose value a leaf's bound meets.
+
+        Adds each of the points to the store.
+
+        Args:
+            clp: The relaxation at its optimum; None: it has none.
+        """
         seen: List[Point] = []
         for point in self._narrow_points(answer, clp):
             if point is None or point in seen or not all(map(fits_certificate, point)):
@@ -139,7 +188,8 @@ class LinearCertifier:
     def _narrow_points(
         self, answer: AnswerByPlace, clp: Optional[Clp]
     ) -> Iterator[Optional[Point]]:
-        """Near the answer, else the vertex of its basis; then CLP's vertex, and points near that."""
+        """Feasible points near the answer, else the vertex of its basis; then CLP's vertex, and
+        points near CLP's values. None stands for a vertex that is not feasible."""
         program, is_near = self.program, False
         if answer.values is not None:
             for point in points.nearby_points(program, answer.values):
@@ -155,7 +205,11 @@ class LinearCertifier:
     def _leaf_that_meets(
         self, value: Fraction, answer: AnswerByPlace, clp: Optional[Clp]
     ) -> Optional[LeafProof]:
-        """A leaf whose bound is the value: by CLP's duals, those of its basis, or the answer's."""
+        """A leaf whose bound reaches the value: by CLP's duals, its basis' or the answer's.
+
+        Args:
+            value: The objective of a feasible point, minimised.
+        """
         prover = LeafProver(self.program, value)
         if not any(self.program.costs):
             return prover.prove_from_doubles({}, MultiplierKind.DUAL, self._box())
@@ -166,7 +220,11 @@ class LinearCertifier:
         return proof
 
     def _leaf_by_clp(self, prover: LeafProver, clp: Clp) -> Optional[LeafProof]:
-        """By CLP's duals, or the exact ones of its basis."""
+        """By the roundings of CLP's duals, else by the exact ones of its basis.
+
+        Args:
+            prover: With the value that the bound must reach.
+        """
         dual, box = MultiplierKind.DUAL, self._box()
         proof = prover.prove_from_doubles(dict(enumerate(clp.duals())), dual, box)
         if proof is not None:
@@ -176,7 +234,12 @@ class LinearCertifier:
     def _leaf_by_answer(
         self, prover: LeafProver, answered: Mapping[int, Number]
     ) -> Optional[LeafProof]:
-        """By the answer's duals, rounded, or as they are where they are fractions."""
+        """By the answer's duals, rounded, or as they are where they are fractions.
+
+        Args:
+            prover: With the value that the bound must reach.
+            answered: By row, rates of change of the objective in the file's sense.
+        """
         dual, box = MultiplierKind.DUAL, self._box()
         duals = {i: self.program.sign * y for i, y in answered.items()}
         proof = prover.prove_from_doubles({i: float(y) for i, y in duals.items()}, dual, box)
@@ -186,10 +249,19 @@ class LinearCertifier:
         return proof
 
     def _box(self) -> Box:
+        """The program's own bounds of columns."""
         return Box(self.program.lower, self.program.upper)
 
     def _by_short_points(self, clp: Clp) -> Iterator[Evidence]:
-        """`within` by short numbers, at the first point that is near the bound, else at the best."""
+        """`within` by short numbers, at the first point that is near the bound, else at the best.
+
+        Near is GOOD_GAP of the point's value, or of 1. Adds each point to the store. While a claim
+        is made, the store's note says how its point was made; at the end it says why the judge
+        refused the last claim, where there was one.
+
+        Args:
+            clp: The relaxation at its optimum.
+        """
         store = self.store
         note, bound = store.note, store.bound
         far: List[FarPoint] = []
@@ -214,7 +286,11 @@ class LinearCertifier:
             store.note = _both_notes(note, f"points of few digits: {refused.partition(': ')[2]}")
 
     def _short_points(self, clp: Clp) -> Iterator[ShortPoint]:
-        """Points in decimals; of a program that is not too large also with decimals by rows."""
+        """Feasible points in decimals, made of CLP's optimum (`short_points`).
+
+        They have the same number of decimals everywhere; then, unless the program is too large,
+        more of them where the rows ask for it.
+        """
         program = self.program
         is_refined = program.matrix.count <= MOST_REFINED_ENTRIES
         for by_rows in (False, True) if is_refined else (False,):
@@ -226,10 +302,16 @@ class LinearCertifier:
     def _at_far_points(
         self, far: List[FarPoint], bound: Optional[BoundEvidence]
     ) -> Iterator[Evidence]:
+        """`within` at these points, the best first.
+
+        Args:
+            bound: None only where there are no points.
+        """
         for _, point in sorted(far):
             assert bound is not None
             yield self.store.claim_of_bound("within", bound, point)
 
 
 def _both_notes(note: str, more: str) -> str:
+    """The note, with what is more to say behind it, if that is not empty."""
     return f"{note}; {more}" if more else note

@@ -6,6 +6,9 @@ systems: SciPy's SuperLU factors the matrix once in doubles, and each step of th
 binary digits to the solution, whose residual is exact in 64 bits (Wan 2006, in the manner of Dixon
 1982, with a power of two in place of a prime's). Fractions near the digits are then checked in
 whole numbers.
+
+`basis` solves for exact optima in either way. Vertices, exact duals of a basis, and what rounding
+leaves of equations are solved for by `solve_exactly`.
 """
 
 from __future__ import annotations
@@ -54,7 +57,7 @@ PIVOT_THRESHOLD = 0.1  # of SuperLU: how small beside its column's largest entry
 
 Rational = Union[int, Fraction]
 Equation = Tuple[Mapping[int, Rational], Rational]  # coefficients by unknown, right-hand side
-IntegerRow = Dict[int, int]  # coefficients by unknown; they sum up to 0
+IntegerRow = Dict[int, int]  # coefficients by unknown, or RHS; times the unknowns they sum up to 0
 Doubles = npt.NDArray[np.float64]
 Integers = npt.NDArray[np.int64]
 
@@ -78,12 +81,12 @@ class IntegerRows:
     """Rows of whole numbers by name, and which rows have an unknown.
 
     A row says that its coefficients times its unknowns sum up to 0, so that it stays the same when
-    it is divided by a common factor of its coefficients.
+    it is divided by a common factor of its coefficients. `Elimination` makes a system of them.
 
     Attributes:
         rows: By name, without common factors.
-        names_with: Of an unknown: the names of the rows that have it.
-        work: How many coefficients were touched.
+        names_with: By unknown, the names of the rows that have it; RHS counts as an unknown.
+        work: How many coefficients were touched so far.
     """
 
     def __init__(self) -> None:
@@ -92,7 +95,7 @@ class IntegerRows:
         self.work = 0
 
     def add(self, name: int, row: IntegerRow) -> None:
-        """Takes a new row, whose coefficients are not 0."""
+        """Takes a row under a new name; none of its coefficients is 0."""
         for unknown in row:
             self.names_with[unknown].add(name)
         self._store(name, row)
@@ -100,8 +103,15 @@ class IntegerRows:
     def eliminate(self, name: int, unknown: int) -> IntegerRow:
         """Takes a row away, and by multiples of it the unknown out of all others.
 
+        Args:
+            name: Of the row.
+            unknown: One that the row has.
+
         Returns:
             The row, which determines the unknown by the others that it has.
+
+        Raises:
+            TimeOver: The time of exact work is over.
         """
         check_work()
         pivot_row = self._remove(name)
@@ -116,7 +126,14 @@ class IntegerRows:
     def _without(
         self, unknown: int, name: int, row: IntegerRow, pivot_row: IntegerRow
     ) -> IntegerRow:
-        """A combination of the named row and the pivot's that does not have the unknown."""
+        """A combination of the named row and the pivot's that does not have the unknown.
+
+        Keeps `names_with` true of it; the row is changed, and not stored yet.
+
+        Args:
+            row: The named one, which has the unknown and was taken out of `rows`.
+            pivot_row: Has the unknown, too.
+        """
         coefficient, pivot = row.pop(unknown), pivot_row[unknown]
         common = gcd(pivot, coefficient)
         factor, multiple = pivot // common, coefficient // common
@@ -132,10 +149,12 @@ class IntegerRows:
         return row
 
     def _store(self, name: int, row: IntegerRow) -> None:
+        """Puts a row under its name, divided by its greatest common factor."""
         common = gcd(*row.values())
         self.rows[name] = {k: a // common for k, a in row.items()} if common > 1 else row
 
     def _remove(self, name: int) -> IntegerRow:
+        """Takes a row out of `rows`, while `names_with` still has it."""
         return self.rows.pop(name)
 
 
@@ -143,12 +162,16 @@ class Elimination(IntegerRows):
     """The rows of a system that are left while its unknowns are eliminated one by one.
 
     Args:
-        system: Its equations, which are named by their places.
+        system: Its equations, which are named by their places. Fractions in them are cleared.
         most_work: As `IntegerRows.work` counts it.
 
+    Attributes:
+        names_by_length: By count of unknowns, without the right-hand side, the names of rows.
+
     Raises:
-        InconsistentSystem: As soon as a row says that a number which is not 0 is 0.
-        WorkLimit: As soon as the work is more than that.
+        InconsistentSystem: At the start or later, as soon as a row says that a number which is not
+            0 is 0.
+        WorkLimit: The same, as soon as the work is more than `most_work`.
     """
 
     def __init__(self, system: Iterable[Equation], most_work: int) -> None:
@@ -163,8 +186,12 @@ class Elimination(IntegerRows):
     def next_pivot(self) -> Tuple[int, IntegerRow]:
         """Eliminates the next unknown: one that few other rows have, of a row of the least length.
 
+        Among MOST_PIVOT_ROWS of the shortest rows it is the one that the fewest rows have
+        (Markowitz 1957). There must be a row left.
+
         Returns:
-            The unknown, and the row that determines it by those which are eliminated later.
+            The unknown, and the row that determines it by those which are eliminated later, and by
+            those which never are.
         """
         least = min(length for length, names in self.names_by_length.items() if names)
         best = (len(self.rows) + 1, 0, 0)
@@ -177,6 +204,12 @@ class Elimination(IntegerRows):
         return unknown, self.eliminate(name, unknown)
 
     def _store(self, name: int, row: IntegerRow) -> None:
+        """The same, with its length; a row that says 0 = 0 falls away.
+
+        Raises:
+            InconsistentSystem: The row has no unknown, but a right-hand side.
+            WorkLimit: The work so far is more than `most_work`.
+        """
         if self.work > self.most_work:
             raise WorkLimit(f"more than {self.most_work} coefficients")
         if not row:
@@ -194,6 +227,7 @@ class Elimination(IntegerRows):
 
 
 def _count_of_unknowns(row: IntegerRow) -> int:
+    """How many unknowns a row has, the right-hand side aside."""
     return len(row) - (RHS in row)
 
 
@@ -203,12 +237,16 @@ def solve_exactly(
     """Values of the unknowns that satisfy all equations, by elimination in whole numbers.
 
     Args:
-        system: The equations; an unknown is any number from 0 on.
+        system: The equations, in whole numbers or fractions; an unknown is any number from 0 on.
+            There may be more or fewer of them than unknowns.
         most_work: Coefficients that may be touched.
 
     Returns:
         By unknown; those that the system leaves free are 0 or not named. None where it has no
         solution, or takes more work than it may.
+
+    Raises:
+        TimeOver: The time of exact work is over.
     """
     pivots = []
     try:
@@ -242,10 +280,20 @@ def scipy_or_none() -> Any:
 class LiftedSystem:
     """Solves A x = b and x A = b for one square matrix A of whole numbers, by SciPy.
 
+    SciPy must be there (`scipy_or_none`).
+
     Args:
         rows: Of A: pairs of a column and a coefficient, which fits 64 bits.
-        most_bits: Binary digits that are made of each unknown at most. A fraction is found by
-            twice as many digits as its numerator and denominator have together.
+        most_bits: Binary digits behind the point that are made of each unknown at most. Fractions
+            are found by about twice as many digits as their common denominator has.
+
+    Attributes:
+        size: The count of rows, and of columns.
+        matrix: A, in 64 bits, by rows.
+        transposed: The same of its transpose.
+        row_factors: Powers of two, by which its rows are multiplied before it is factored.
+        column_factors: The same of its columns.
+        lu: SuperLU's factors of what becomes of it, in doubles.
 
     Raises:
         NotSolved: A coefficient is too wide, or doubles find the matrix singular.
@@ -266,20 +314,25 @@ class LiftedSystem:
         self._factor()
 
     def solve(self, rhs: Sequence[int]) -> RationalVector:
-        """The x of A x = b.
+        """The x of A x = b, by column.
+
+        Args:
+            rhs: b, by row.
 
         Raises:
-            NotSolved: The right-hand side is too wide, or the lifting does not converge.
+            NotSolved: A number of b is not below EXACT_DOUBLE_LIMIT, or the lifting does not
+                converge.
             TooManyBits: `most_bits` digits do not tell x.
+            TimeOver: The time of exact work is over.
         """
         return self._solve(rhs, is_transposed=False)
 
     def solve_transposed(self, rhs: Sequence[int]) -> RationalVector:
-        """The same of x A = b."""
+        """The x of x A = b, by row; b is by column. It raises the same."""
         return self._solve(rhs, is_transposed=True)
 
     def solve_in_doubles(self, rhs: Doubles, *, is_transposed: bool) -> Doubles:
-        """By the factors in doubles alone."""
+        """About the x of A x = b, or of x A = b where it `is_transposed`, by the factors alone."""
         found: Doubles
         if is_transposed:
             found = self.row_factors * self.lu.solve(self.column_factors * rhs, trans="T")
@@ -288,7 +341,12 @@ class LiftedSystem:
         return found
 
     def _factor(self) -> None:
-        """Rows, then columns, are scaled so that the largest entry of each is about 1."""
+        """Sets the factors of rows, then of columns, so that the largest entry of each is about 1,
+        and `lu` of what becomes of the matrix.
+
+        Raises:
+            NotSolved: It is singular in doubles.
+        """
         sparse = scipy_or_none()
         doubles = self.matrix.tocsc().astype(float)
         self.row_factors = _scaling_powers(abs(doubles).max(axis=1))
@@ -303,6 +361,12 @@ class LiftedSystem:
             raise NotSolved("the basis is singular in doubles") from None
 
     def _solve(self, rhs: Sequence[int], *, is_transposed: bool) -> RationalVector:
+        """The x of A x = b, or of x A = b where it `is_transposed`; raises what `solve` does.
+
+        Digits are made until they are the solution themselves, or fractions near them are; those
+        are looked for at FIRST_RECONSTRUCTION_BITS, then each time that there are
+        RECONSTRUCTION_GROWTH times as many.
+        """
         if not any(rhs):
             return RationalVector([0] * self.size, 1)
         if max(abs(v) for v in rhs) >= EXACT_DOUBLE_LIMIT:
@@ -321,7 +385,11 @@ class LiftedSystem:
 
 
 def _scaling_powers(largest: Any) -> Doubles:
-    """The powers of two that bring numbers of a sparse matrix to about 1; 1 for zeros."""
+    """The powers of two that bring numbers to about 1; 1 for zeros.
+
+    Args:
+        largest: A sparse matrix of one row or one column, of numbers from 0 on.
+    """
     sizes = largest.toarray().ravel()
     sizes[sizes == 0] = 1
     powers: Doubles = 2.0 ** -np.round(np.log2(sizes))
@@ -335,10 +403,19 @@ class _Lifting:
     times the correction is `residual`: whole numbers of 64 bits, all of them exact.
 
     Attributes:
+        matrix: That of the system, or its transpose.
+        doubles: The same in doubles.
+        norm: The greatest sum of the sizes of a row's coefficients, 1 at least.
+        bits: Binary digits that are there.
         numerators: Of the unknowns, over 2 to the power of `bits`.
-        correction: In doubles.
+        residual: By equation.
+        correction: By unknown, in doubles, which makes it a little wrong.
+        first_size: The size of the first correction, 1 at least, to which later ones are compared.
         step_bits: How many digits the next step adds. It becomes less where the residual of a step
             would not fit 64 bits, or where doubles do not converge.
+
+    Raises:
+        NotSolved: The first correction is so large that the matrix must be singular.
     """
 
     def __init__(self, system: LiftedSystem, rhs: Sequence[int], *, is_transposed: bool) -> None:
@@ -359,13 +436,14 @@ class _Lifting:
         self.numerators = [0] * system.size
 
     def advance(self) -> bool:
-        """Takes one step.
+        """Takes one step, of `step_bits` digits or of as many fewer as it takes to converge.
 
         Returns:
             Whether it was the last: the digits are the solution.
 
         Raises:
-            NotSolved: Not even a step of the fewest digits brings the residual down.
+            NotSolved: Not even a step of LEAST_STEP_BITS digits converges.
+            TimeOver: The time of exact work is over.
         """
         while self.step_bits >= LEAST_STEP_BITS:
             check_work()
@@ -379,20 +457,29 @@ class _Lifting:
         raise NotSolved("doubles do not converge")
 
     def fractions(self) -> Optional[RationalVector]:
-        """Fractions near the digits that solve the system exactly; None where there are none."""
+        """The fractions near the digits, if they solve the system exactly; else None.
+
+        Digits count as off by twice the size of the correction.
+        """
         error = int(max(float(np.abs(self.correction).max()), 1.0) * 2) + 2
         found = reconstructed(self.numerators, self.bits, error)
         return found if found is not None and self._is_solution(found) else None
 
     def _solve_in_doubles(self, residual: Integers) -> Doubles:
+        """The correction that belongs to a residual."""
         return self.system.solve_in_doubles(
             residual.astype(float), is_transposed=self.is_transposed
         )
 
     def _next_digits(self) -> Optional[List[int]]:
-        """The digits of a step, which is taken; None where what would be left does not fit.
+        """The next `step_bits` digits of each unknown, as a whole number of either sign.
 
-        The residual of the step is the old one times 2^step_bits less the matrix times the digits.
+        Sets `residual` and `correction` to those behind them: the new residual is the old one times
+        2^step_bits less the matrix times the digits.
+
+        Returns:
+            None, and nothing is set, where the new residual would not fit 64 bits, or the new
+            correction is more than a quarter of 2^step_bits times `first_size`.
         """
         bits = self.step_bits
         digits = np.rint(np.ldexp(self.correction, bits))
@@ -415,6 +502,7 @@ class _Lifting:
         return found
 
     def _is_solution(self, found: RationalVector) -> bool:
+        """Whether the matrix times the fractions is exactly the right-hand side."""
         starts = self.matrix.indptr.tolist()
         columns = self.matrix.indices.tolist()
         coefficients = self.matrix.data.tolist()
@@ -427,7 +515,7 @@ class _Lifting:
 
 
 def reconstructed(values: Sequence[int], bits: int, error: int) -> Optional[RationalVector]:
-    """Fractions over one denominator that are near binary numbers (rational reconstruction).
+    """Fractions over one denominator near numbers of some binary digits (rational reconstruction).
 
     Each number is first tried over the denominator of those before it. Two different fractions
     with denominators up to q are at least 1 / q^2 apart, so that one within half of that is the
@@ -435,10 +523,12 @@ def reconstructed(values: Sequence[int], bits: int, error: int) -> Optional[Rati
 
     Args:
         values: Numerators over 2 to the power of `bits`.
-        error: By how much each of them may be off.
+        bits: At least 1.
+        error: By how much each of the numerators may be off.
 
     Returns:
-        None where one is near no fraction that its digits could tell.
+        In the order of the values; whether they are right is not known yet. None where one is near
+        no fraction that its digits could tell.
     """
     denominator = 1
     half = 1 << bits - 1

@@ -15,7 +15,11 @@ Wolsey 2001).
 
 Its proof is a split disjunction: an integer form is at most `floor` in one part and at least `floor
 + 1` in the other, and in both parts multipliers of rows bound the cut's left side. All here
-is in whole numbers; `mir_separation` looks for cuts, in doubles.
+is in whole numbers; `mir_separation` looks for cuts, in doubles, and `cuts` proves those that it
+chooses.
+
+A place is the number of a column, or, behind the columns, n plus the number of a row, which stands
+for the row's activity.
 """
 
 from __future__ import annotations
@@ -35,12 +39,12 @@ COARSE_DENOMINATOR = 10**4  # the same where they have no such common one
 LARGEST_COEFFICIENT = 10**12
 LARGEST_SPREAD = 10**6  # of the sizes of a cut's coefficients
 
-Combination = Dict[int, float]  # multipliers by row
+Combination = Dict[int, float]  # multipliers by row, of either sign
 Number = TypeVar("Number", int, float)
 
 
 class Substitution(NamedTuple):
-    """How a column or a row's activity z counts: z = bound / bound_scale + sign * t, t >= 0.
+    """How a column or a row's activity z counts: z = bound / bound_scale + sign * t, with t >= 0.
 
     Attributes:
         bound: Of the column, or of the row; over `bound_scale` of the program.
@@ -58,12 +62,20 @@ class Substitution(NamedTuple):
 
 
 class Substitutions(Dict[int, Optional[Substitution]]):
-    """By column, and behind the columns by row, each made when it is first asked for.
+    """By place, the substitution from the bound near x; each is made when it is first asked for.
 
-    None stands for what has no bound to count from. `x` is the point that cuts are to cut off.
+    None stands for what has no bound to count from.
+
+    Attributes:
+        x: By place: columns, then activities of rows, at the point that cuts are to cut off, in the
+            file's units.
     """
 
     def __init__(self, program: IntegerProgram, x: Sequence[float]) -> None:
+        """
+        Args:
+            x: By column, the relaxation's optimum.
+        """
         super().__init__()
         self.program = program
         activities = (sum([a * x[j] for j, a in row]) / program.row_scale for row in program.rows)
@@ -74,6 +86,7 @@ class Substitutions(Dict[int, Optional[Substitution]]):
         return self[place]
 
     def _from_nearest_bound(self, place: int) -> Optional[Substitution]:
+        """From the bound that x is nearer to, the lower one where both are as near."""
         scale, value = self.program.bound_scale, self.x[place]
         row = place - self.program.n
         lower, upper, is_integer = self._column(place) if row < 0 else self._row(row)
@@ -86,6 +99,7 @@ class Substitutions(Dict[int, Optional[Substitution]]):
         return Substitution(lower, 1, distance, is_integer, lower == upper)
 
     def _column(self, column: int) -> _Interval:
+        """The bounds of a column; of an integer one only those that are whole numbers."""
         program = self.program
         lower, upper = program.lower[column], program.upper[column]
         if program.is_integer[column]:
@@ -94,6 +108,8 @@ class Substitutions(Dict[int, Optional[Substitution]]):
         return _Interval(lower, upper, program.is_integer[column])
 
     def _row(self, row: int) -> _Interval:
+        """The bounds of a row. What counts from them is integer where they are whole numbers, and
+        the row has whole coefficients in integer columns alone."""
         program = self.program
         lower, upper = program.row_lower[row], program.row_upper[row]
         are_integral = lower == _integral(lower, program.bound_scale)
@@ -118,9 +134,12 @@ def _integral(bound: Bound, scale: int) -> Bound:
 
 
 class Divisor(NamedTuple):
-    """The number d by which a combination is divided: `multiple` of a column's coefficient.
+    """The number d by which a combination is divided.
 
-    Where there is no column, of 1.
+    Attributes:
+        column: The place, a column's or a row's, of whose coefficient d is a multiple, in size;
+            None: it is one of 1.
+        multiple: That multiple, as a fraction.
     """
 
     column: Optional[int]
@@ -128,7 +147,11 @@ class Divisor(NamedTuple):
 
 
 class SplitDisjunction(NamedTuple):
-    """An integer form, which is at most `floor` or at least `floor + 1` at each integer point."""
+    """An integer form, which is at most `floor` or at least `floor + 1` at each integer point.
+
+    Attributes:
+        form: Whole coefficients by column, those that are not 0; all columns are integer.
+    """
 
     form: Dict[int, int]
     floor: int
@@ -138,11 +161,12 @@ class MIRCut(NamedTuple):
     """A cut in whole numbers.
 
     Attributes:
-        coefficients: Of its left side, by column.
-        rhs: What that is at most.
+        coefficients: Of its left side, by column, those that are not 0.
+        rhs: What the left side is at most, at points in the file's units. It has no common divisor
+            with all coefficients.
         split: The disjunction of its proof.
-        multipliers: In both parts of it, those of rows and of the split's form, which is the row
-            behind all others.
+        multipliers: In its part `at most floor`, then in the other one: those of rows and of the
+            split's form, which is the row behind all others. The costs are the left side times -1.
         efficacy: The Euclidean distance of the relaxation's optimum from it; 0 where the cut is
             not to be used.
     """
@@ -173,10 +197,13 @@ class MIRProof(NamedTuple):
 def aggregated(
     program: IntegerProgram, combination: Mapping[int, Number], factor: Number
 ) -> Dict[int, Number]:
-    """A combination of rows as a sum that is 0 at each point: of columns, and of rows behind them.
+    """A combination of rows as a sum of columns less activities of rows, which is 0 at each point.
+
+    Args:
+        combination: Multipliers by row, whole numbers or doubles; `factor` is of their kind.
 
     Returns:
-        Coefficients by place, times `row_scale` of the program and `factor`.
+        Coefficients by place, times `row_scale` of the program and `factor`; some may be 0.
     """
     total: Dict[int, Number] = {}
     for row, multiplier in combination.items():
@@ -190,12 +217,17 @@ def aggregated(
 def mir_cut(
     substitutions: Substitutions, combination: Combination, divisor: Divisor
 ) -> Optional[MIRCut]:
-    """The cut in whole numbers.
+    """The MIR cut of a combination by a divisor, in whole numbers.
 
     The combination's multipliers are rounded to fractions first: any multipliers of rows are right.
 
+    Args:
+        substitutions: Of the program whose rows are combined, at the relaxation's optimum.
+        divisor: As `best_divisor` found it in doubles.
+
     Returns:
-        None where the exact cut is none, cuts off too little, or has coefficients too wide.
+        None where d is 0, b / d is whole, or a place has no bound to count from, where the cut's
+        efficacy is below LEAST_EFFICACY, or its coefficients are too wide.
     """
     program = substitutions.program
     times, over = divisor.multiple
@@ -218,7 +250,7 @@ def mir_cut(
 
 
 def _over_one_denominator(combination: Combination) -> Tuple[int, Dict[int, int]]:
-    """Short fractions near the multipliers: their denominator, and numerators by row."""
+    """Short fractions near the multipliers: their denominator, and numerators by row; some may be 0."""
     ratios = {row: last_convergent(v, LARGEST_DENOMINATOR) for row, v in combination.items()}
     common = lcm(*(denominator for _, denominator in ratios.values()))
     if common > LARGEST_DENOMINATOR:
@@ -231,7 +263,11 @@ Terms = Dict[int, Tuple[Substitution, int]]  # coefficients by place, those that
 
 
 def _substituted(substitutions: Substitutions, total: Mapping[int, int]) -> Optional[Terms]:
-    """None where one has no bound to count from."""
+    """A sum by the substitutions of its places; None where one has no bound to count from.
+
+    Args:
+        total: Whole coefficients by place.
+    """
     terms: Terms = {}
     for place, v in total.items():
         if v:
@@ -249,6 +285,16 @@ def _exact_cut(program: IntegerProgram, terms: Terms, d: int, whole: int, rest: 
     F(c / d) becomes `floor(c / d) * room + max(0, c % d - rest)`. The split's form rounds up where
     `c % d` is above `rest`. In its lower part the form has the multiplier `-room`, in the upper one
     `rest`; what rows have there makes up the difference to the cut.
+
+    Args:
+        terms: The sum of which the cut is made. Its coefficients times `bound_scale` are the c, up
+            to their signs.
+        d: The divisor, above 0, over the same scale as the c.
+        whole: floor(b / d).
+        rest: What is then left of b, above 0 and below d.
+
+    Returns:
+        The cut without its efficacy.
     """
     bound_scale, room = program.bound_scale, d - rest
     coefficients, form = [0] * program.n, [0] * program.n
@@ -278,7 +324,13 @@ def _exact_cut(program: IntegerProgram, terms: Terms, d: int, whole: int, rest: 
 
 
 def _rounded_coefficient(substitution: Substitution, c: int, d: int, rest: int) -> Tuple[int, int]:
-    """The coefficient c in the cut, times `d - rest`, and in the form of its split."""
+    """The coefficient of t in the cut, times `d - rest`, and in the form of its split.
+
+    Args:
+        c: The coefficient of t in the sum of which the cut is made.
+        d: The divisor.
+        rest: Of b, when it is divided by d.
+    """
     if substitution.is_fixed:
         return 0, 0
     if not substitution.is_integer:
@@ -290,13 +342,27 @@ def _rounded_coefficient(substitution: Substitution, c: int, d: int, rest: int) 
 def _leaf_multipliers(
     program: IntegerProgram, numerators: Mapping[int, int], common: int
 ) -> Multipliers:
+    """The multipliers of one part of a cut's proof.
+
+    Args:
+        numerators: By row. Times both scales of the program they fit the cut's coefficients before
+            these are divided.
+        common: The common divisor by which those are divided.
+    """
     factor = program.row_scale * program.bound_scale
     nonzero = {row: v * factor for row, v in numerators.items() if v}
     return Multipliers(nonzero, common, MultiplierKind.DUAL)
 
 
 def _efficacy(cut: MIRCut, x: Sequence[float]) -> float:
-    """At x; 0 where doubles or certificates do not bear the coefficients."""
+    """How far x is beyond the cut, as a Euclidean distance; below 0 where it is not.
+
+    0 where the coefficients are too large or too different for doubles and certificates, or the
+    split has no columns.
+
+    Args:
+        x: In the file's units; its columns come first.
+    """
     sizes = [abs(a) for a in cut.coefficients.values()]
     if not sizes or not cut.split.form:
         return 0.0
@@ -309,10 +375,15 @@ def _efficacy(cut: MIRCut, x: Sequence[float]) -> float:
 
 
 def prove_mir_cut(program: IntegerProgram, cut: MIRCut) -> Optional[MIRProof]:
-    """The proof, where the exact rule accepts both of its leaves.
+    """The proof, where the exact rule accepts both of its leaves; else None.
+
+    In the leaves the cut's left side is maximised, and is to be at most its right-hand side. The
+    split's form is one row more, whose upper bound is that of the low part and whose lower bound
+    that of the high part: the sign of its multiplier says which part a leaf is for. Called for each
+    cut that a round takes.
 
     Args:
-        program: With the rows that the cut was made of.
+        program: With the rows that the cut was made of, cuts before it among them.
     """
     form, whole = cut.split
     split = program.with_rows([Row(form, whole + 1, whole)])

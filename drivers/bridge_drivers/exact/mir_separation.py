@@ -3,6 +3,9 @@
 Rows are aggregated so that continuous columns which stand between their bounds go out (Marchand and
 Wolsey 2001), and rows of the simplex tableau are tried. How deep a cut is is seen in doubles; the
 cut itself is made by `mir`, in whole numbers.
+
+The cut loop at the root of a search makes an `MIRSeparator` in each of its rounds. Numbers here are
+in the file's units; places are as in `mir`.
 """
 
 from __future__ import annotations
@@ -40,21 +43,39 @@ FAR_FROM_BOUNDS = 1e9  # how far a column without a bound is from it
 
 
 def mir_coefficient(quotient: float, fraction: float) -> float:
-    """F(quotient) in doubles; what is just below a whole number counts as that."""
+    """F(quotient), as `mir` has it, in doubles; what is just below a whole number counts as that.
+
+    Args:
+        quotient: A coefficient over the divisor.
+        fraction: f: the fractional part of the right-hand side over the divisor.
+    """
     whole = floor(quotient + ZERO_COEFFICIENT)
     rest = quotient - whole - fraction
     return whole + rest / (1 - fraction) if rest > 0 else float(whole)
 
 
 class _Screening:
-    """A combination after bound substitution, in doubles: how deep its MIR cut is by a divisor."""
+    """A combination after bound substitution, in doubles: how deep its MIR cut is by a divisor.
+
+    The combination says: sum of c_k t_k = b, with t >= 0.
+
+    Attributes:
+        integers: Of the t that are integer: the coefficient, the value at the optimum and the place
+            of each. A t that is fixed counts nowhere.
+        rhs: b.
+        slack: The sum of -c t over the other t whose coefficient c is below 0.
+        squares: The sum of the squares of these c.
+    """
 
     def __init__(self, substitutions: Substitutions, combination: Combination) -> None:
-        """Raises LookupError where a column that it has cannot be substituted."""
+        """
+        Raises:
+            LookupError: A column or row that has a coefficient has no bound to count from.
+        """
         program = substitutions.program
-        self.integers: List[Tuple[float, float, int]] = []  # coefficients, values and places
+        self.integers: List[Tuple[float, float, int]] = []
         self.rhs = 0.0
-        self.slack = 0.0  # of the other columns with coefficients below 0, as their squares
+        self.slack = 0.0
         self.squares = 0.0
         for place, v in aggregated(program, combination, 1 / program.row_scale).items():
             if abs(v) <= ZERO_COEFFICIENT:
@@ -67,6 +88,7 @@ class _Screening:
                 self._add(v * substitution.sign, substitution, place)
 
     def _add(self, coefficient: float, substitution: Substitution, place: int) -> None:
+        """Takes the term coefficient * t of a place into account, whose t is not fixed."""
         if substitution.is_integer:
             self.integers.append((coefficient, substitution.value, place))
         elif coefficient < 0:
@@ -74,7 +96,15 @@ class _Screening:
             self.squares += coefficient * coefficient
 
     def efficacy(self, divisor: float) -> float:
-        """How far the relaxation's optimum is beyond the cut; 0 where it is not."""
+        """By how much the cut by this divisor seems to cut off the relaxation's optimum.
+
+        That is the violation over the Euclidean length of the cut's coefficients of the t. 0 where
+        there seems to be none, or where the right-hand side over the divisor is within
+        LEAST_FRACTION of a whole number. `mir_cut` tells the true one.
+
+        Args:
+            divisor: Above 0.
+        """
         whole = floor(self.rhs / divisor)
         fraction = self.rhs / divisor - whole
         if not LEAST_FRACTION <= fraction <= 1 - LEAST_FRACTION:
@@ -93,7 +123,11 @@ class _Screening:
         return violation / sqrt(squares + self.squares / (divisor * (1 - fraction)) ** 2)
 
     def sizes(self) -> Dict[float, Optional[int]]:
-        """Sizes of coefficients that divisors are multiples of, with a column that has each."""
+        """Sizes of coefficients that divisors are multiples of, with a place that has each.
+
+        Such are the coefficients of integer t that are above 0 at the optimum, and 1, which has no
+        place; MOST_DIVISORS at most, and none where no t is integer.
+        """
         sizes: Dict[float, Optional[int]] = {
             abs(c): place for c, value, place in self.integers if value > POSITIVE
         }
@@ -104,7 +138,14 @@ class _Screening:
 def best_divisor(
     substitutions: Substitutions, combination: Combination, multiples: Iterable[Ratio]
 ) -> Optional[Divisor]:
-    """The divisor whose cut has the greatest efficacy, in doubles; None where none cuts."""
+    """The divisor whose cut has the greatest efficacy, in doubles.
+
+    Args:
+        multiples: Fractions: a divisor is one of these times a coefficient of the combination.
+
+    Returns:
+        None where none cuts, or a place of the combination has no bound to count from.
+    """
     try:
         screening = _Screening(substitutions, combination)
     except LookupError:
@@ -122,8 +163,9 @@ class VariableBound(NamedTuple):
     """A continuous column is at most `slope` times the integer one `column`.
 
     Attributes:
-        row: The row of two columns that says so.
-        coefficient: Of the continuous column in it.
+        slope: Above 0.
+        row: The row of these two columns that says so.
+        coefficient: Of the continuous column in it, in the file's units.
     """
 
     slope: float
@@ -133,7 +175,10 @@ class VariableBound(NamedTuple):
 
 
 def variable_bounds(program: IntegerProgram) -> Dict[int, List[VariableBound]]:
-    """Those that rows of two columns give, by continuous column."""
+    """By continuous column the variable upper bounds that rows of two columns give.
+
+    Such a row has a bound of 0, and coefficients of which one is above 0 and one is below.
+    """
     found: Dict[int, List[VariableBound]] = {}
     for i, row in enumerate(program.rows):
         if len(row) != 2:
@@ -148,15 +193,28 @@ def variable_bounds(program: IntegerProgram) -> Dict[int, List[VariableBound]]:
 
 
 class MIRSeparator:
-    """Looks for MIR cuts at the optimum x of a relaxation (aggregation heuristic)."""
+    """Looks for MIR cuts at the optimum x of a relaxation (aggregation heuristic).
+
+    Attributes:
+        substitutions: Of the program at x.
+        distances: By column: how far a continuous one is from its nearest bound, a variable one
+            too; FAR_FROM_BOUNDS where it has none. 0 of integer columns.
+        nearest: By continuous column its nearest variable bound, where no bound is nearer.
+    """
 
     def __init__(self, program: IntegerProgram, clp: Clp, x: Sequence[float]) -> None:
+        """
+        Args:
+            program: With all rows that cuts may be made of, cuts of earlier rounds too.
+            clp: Its relaxation at the optimum. It loses its costs to `tableau_rows`.
+            x: The values of the columns there.
+        """
         self.program = program
         self.clp = clp
         self.x = x
         self.substitutions = Substitutions(program, x)
-        self.distances = [0.0] * program.n  # of continuous columns from their nearest bound
-        self.nearest: Dict[int, VariableBound] = {}  # where that is a variable bound
+        self.distances = [0.0] * program.n
+        self.nearest: Dict[int, VariableBound] = {}
         known = variable_bounds(program)
         for j in (j for j in range(program.n) if not program.is_integer[j]):
             substitution = self.substitutions[j]
@@ -168,7 +226,13 @@ class MIRSeparator:
                     self.nearest[j] = bound
 
     def cuts(self, is_over: Callable[[], bool]) -> List[MIRCut]:
-        """Cuts by falling efficacy, of as many combinations as there is time for."""
+        """Cuts by falling efficacy, of as many combinations as there is time for.
+
+        Each of them cuts x off, at most one for a combination; none is proved yet.
+
+        Args:
+            is_over: Whether the time is over; asked before each combination.
+        """
         combinations = chain(
             ((combination, DIVISOR_MULTIPLES) for combination in self.aggregations()),
             ((combination, TABLEAU_MULTIPLES) for combination in self.tableau_rows()),
@@ -184,7 +248,11 @@ class MIRSeparator:
         return sorted(found, key=lambda cut: -cut.efficacy)
 
     def aggregations(self) -> Iterator[Combination]:
-        """Each row by each of its bounds, and sums of rows that begin with it."""
+        """Combinations of rows: each row alone, and sums of rows that begin with it.
+
+        It has the multiplier 1 where it has an upper bound, and -1 where it has a lower one. That
+        its activity counts from the nearer one is left to the substitution.
+        """
         for row in range(self.program.m):
             for sign, bound in (
                 (1.0, self.program.row_upper[row]),
@@ -194,7 +262,11 @@ class MIRSeparator:
                     yield from self._sums_from({row: sign})
 
     def _sums_from(self, combination: Combination) -> Iterator[Combination]:
-        """The combination, and those that take out columns which stand between their bounds."""
+        """The combination, and sums with more rows, of which each takes out one continuous column.
+
+        That is the one that is farthest from its bounds. At most MOST_AGGREGATED_ROWS rows are in a
+        sum, without those of variable bounds, which are added to each as it is yielded.
+        """
         for _ in range(MOST_AGGREGATED_ROWS):
             total = aggregated(self.program, combination, 1 / self.program.row_scale)
             yield self._with_variable_bounds(combination, total)
@@ -215,10 +287,16 @@ class MIRSeparator:
     def _row_to_eliminate(
         self, column: int, coefficient: float, used: Combination
     ) -> Optional[Tuple[int, int]]:
-        """The row that takes the column out and brings in least between bounds.
+        """The row that takes a column out of a sum and brings in least that is between its bounds.
+
+        Args:
+            coefficient: Of the column in the sum so far. Only its sign counts: a row that is added
+                needs an upper bound, one that is subtracted a lower one.
+            used: The sum's multipliers by row; none of these rows is taken again.
 
         Returns:
-            The row, and what the column has in it.
+            The row, and the column's coefficient in it, over `row_scale`. None where no row will
+            do; one of two columns that is no equation is left to variable bounds.
         """
         found = []
         for row, a in self.program.by_column[column]:
@@ -233,7 +311,13 @@ class MIRSeparator:
     def _with_variable_bounds(
         self, combination: Combination, total: Mapping[int, float]
     ) -> Combination:
-        """With the rows of the variable bounds that columns are counted from."""
+        """A combination with the rows of variable bounds that columns in its sum are counted from.
+
+        Such a row takes its continuous column out of the sum, and brings its own activity in.
+
+        Args:
+            total: The combination's sum: coefficients by place.
+        """
         found = dict(combination)
         for j in self.nearest.keys() & total.keys():
             bound = self.nearest[j]
@@ -241,7 +325,12 @@ class MIRSeparator:
         return found
 
     def tableau_rows(self) -> Iterator[Combination]:
-        """Rows of the simplex tableau whose basic columns are to be integer and are not."""
+        """Rows of the simplex tableau whose basic columns are to be integer and are not, as
+        combinations.
+
+        Those whose values are nearest to the middle of two whole numbers come first,
+        MOST_TABLEAU_ROWS at most. CLP's relaxation loses its costs.
+        """
         basis = self.clp.saved_basis()
         basic, _ = self.clp.basis()
         from_half = [

@@ -1,4 +1,8 @@
-"""The time of the search for one certificate, and what is told of it while it goes on."""
+"""The time of the search for one certificate, and what is told of it while it goes on.
+
+The pipeline makes one `SearchDeadline` for a certificate; searches ask it at each node, the judge
+asks it how long a verdict may take, and what goes on is told to it as `SearchProgress`.
+"""
 
 from __future__ import annotations
 
@@ -20,12 +24,12 @@ INTERRUPT_SECONDS = 1.0  # after an interrupt, until a step without nodes ends, 
 
 
 class SearchProgress(NamedTuple):
-    """What goes on.
+    """What goes on: a step, or numbers of a search.
 
     Attributes:
         step: In words, where it is no search.
         numbers: Of a search, by name: `nodes`, `open`, `cuts`, and in the objective's own sense
-            `incumbent` and `bound`.
+            `incumbent` and `bound`. Those that are not known are left out.
     """
 
     step: str = ""
@@ -35,19 +39,26 @@ class SearchProgress(NamedTuple):
 class SearchDeadline(Deadline):
     """The limit of all searches for one certificate.
 
-    All has ended a tenth and 5 s after the limit, counted from the start, also on a busy machine
-    where the limit is in processor time.
+    All has ended a tenth and 5 s after the limit, counted from the start on the wall's clock, also
+    on a busy machine where the limit is in processor time.
 
     Attributes:
-        process_is_ending: Of a process: what it works is paused.
-        on_progress: Is told what goes on.
-        incumbent: The objective of the best point, in its own sense, for the progress.
+        process_is_ending: Of a process of a pool, whichever deadline asks: what it works is paused.
+        on_progress: Is told what goes on, in the thread of the search.
+        incumbent: The objective of the best point, in its own sense, for the progress; None before
+            there is one. The certifier of integer programs sets it.
         is_interrupted: The user ended the search.
     """
 
     process_is_ending: ClassVar[bool] = False
 
     def __init__(self, limit: float = math.inf, *, of_processor: bool = False) -> None:
+        """It begins now.
+
+        Args:
+            limit: Seconds, of the wall, or where it is `of_processor` of this process's processor
+                time.
+        """
         super().__init__(limit, of_processor=of_processor)
         self.on_progress: Optional[Callable[[SearchProgress], None]] = None
         self.incumbent: Optional[float] = None
@@ -57,17 +68,20 @@ class SearchDeadline(Deadline):
         self._told_at = time.monotonic()
 
     def left_of_all(self) -> float:
-        """Seconds until all must have ended."""
+        """Seconds of the wall until all must have ended, the judge's last verdict too; negative
+        after that, infinite without a limit."""
         return self._all.left()
 
     def left_to_judge(self) -> Optional[float]:
-        """Seconds for a verdict, a share of what is left of all; None: there is no limit."""
+        """Seconds of the wall for the verdict that is asked for now: a share of what is left of all
+        (`judging`), and at least LEAST_VERDICT_SECONDS. None: there is no limit."""
         left = self.left_of_all() * self._verdict_share
         return None if left == math.inf else max(left, LEAST_VERDICT_SECONDS)
 
     @contextlib.contextmanager
     def judging(self, share: float) -> Iterator[None]:
-        """A block that judges by that share of the seconds."""
+        """A block in which a verdict gets at most that share of the seconds left of all; behind it,
+        all of them. A tree's verdict leaves some so that a smaller claim can be judged."""
         self._verdict_share = share
         try:
             yield
@@ -75,19 +89,22 @@ class SearchDeadline(Deadline):
             self._verdict_share = 1.0
 
     def left_to_find(self) -> float:
-        """Seconds until what is known is told: to the limit, with some left to judge it."""
+        """Seconds of the wall until what is known is told: to the limit, with KEPT_SECONDS of all
+        left to judge it. Where the limit is in processor time, only the latter counts."""
         left = self.left_of_all() - KEPT_SECONDS
         return left if self.of_processor else min(self.left(), left)
 
     def check_search(self, nodes: int, until: float) -> None:
-        """At each node of a search.
+        """Looks at the time at each node of a search, and at each step of the simplex method in
+        fractions.
 
         Args:
-            until: The second of this deadline at which the search pauses.
+            nodes: Of the search so far, for the words of the error.
+            until: The second of this deadline, as `spent` counts, at which the search pauses.
 
         Raises:
             SearchEnded: After an interrupt.
-            SearchPaused: After the limit, or `until`.
+            SearchPaused: After the limit, or `until`, or where the process ends.
         """
         if self.is_interrupted:
             raise SearchEnded("interrupted")
@@ -97,16 +114,19 @@ class SearchDeadline(Deadline):
             raise SearchPaused(f"time ({nodes} nodes)")
 
     def interrupt(self) -> None:
-        """The user ends the search: at its next node, and soon wherever it is."""
+        """The user ends the search: at its next node, and exact work of this thread within
+        INTERRUPT_SECONDS; a solve of CLP ends by its own limit. Called by the handler of a signal,
+        in the main thread."""
         self.is_interrupted = True
         shorten_work(Deadline(INTERRUPT_SECONDS))
 
     def why(self, reason: str) -> str:
-        """Why a search has no tree: its own reason, or an interrupt, which came in another one."""
+        """Why a search has no tree, in words: the reason that it gives itself, or an interrupt,
+        which came in another one."""
         return "interrupted" if self.is_interrupted else reason
 
     def is_progress_due(self) -> bool:
-        """Whether the progress is to be told now; then it is not for a while."""
+        """Whether the progress is to be told now; then it is not again for PROGRESS_SECONDS."""
         now = time.monotonic()
         is_due = now - self._told_at >= PROGRESS_SECONDS
         if is_due:
@@ -114,10 +134,12 @@ class SearchDeadline(Deadline):
         return is_due
 
     def tell_step(self, step: str) -> None:
+        """Tells `on_progress` what goes on where it is no search, in words."""
         self._tell(SearchProgress(step))
 
     def tell_numbers(self, **numbers: float) -> None:
-        """Of a search, with the incumbent."""
+        """Tells `on_progress` numbers of a search by the names of `SearchProgress`, with the
+        incumbent where one is known."""
         if self.incumbent is not None:
             numbers = {"incumbent": self.incumbent, **numbers}
         self._tell(SearchProgress("", numbers))

@@ -1,4 +1,8 @@
-"""What all that is tried for one certificate has in common: the program, the limits, the answer."""
+"""What all that is tried for one certificate has in common: the program, the limits, the answer.
+
+`certifier` makes one `CertificationTask` for a certificate; the certifiers and the refuter ask it
+for searches, relaxations and exact points.
+"""
 
 from __future__ import annotations
 
@@ -25,9 +29,9 @@ class SearchOptions:
 
     Attributes:
         objective: Its number in the file, from 0.
-        proves: Searches may be long; else what takes one leaf is tried.
+        proves: Searches may be long; else what takes one leaf or the plain search is tried.
         is_relaxation: The answer is one of the relaxation.
-        wants_bound: A bound of the relaxation is wanted, too.
+        wants_bound: A bound of the relaxation is wanted, too, also without `proves`.
         shortens: After a tree, a shorter one is looked for.
     """
 
@@ -39,13 +43,14 @@ class SearchOptions:
 
 
 class SolvedRelaxation(NamedTuple):
-    """A relaxation that was solved; `clp` is None where CLP's library is not there."""
+    """A relaxation that was solved; `clp` is None where CLP's library is not there, and its status
+    OTHER then."""
 
     clp: Optional[Clp]
     status: LpStatus
 
     def optimal_clp(self) -> Optional[Clp]:
-        """None where it has no optimum."""
+        """The relaxation at its optimum; None where it has none."""
         return self.clp if self.status is LpStatus.OPTIMAL else None
 
 
@@ -59,7 +64,7 @@ class CertificationTask:
         deadline: The time that there is.
         options: What is asked.
         answer: What a solver said.
-        pool: Other processes that search.
+        pool: Other processes that search; None: this one alone.
         is_linear: The program has no integer columns.
     """
 
@@ -75,7 +80,13 @@ class CertificationTask:
         self.is_linear = not any(self.program.is_integer)
 
     def portfolio(self, program: IntegerProgram, value: Optional[Fraction]) -> Portfolio:
-        """Searches trees that no point of the program is better than the value."""
+        """A portfolio that has not begun, for trees that no point of the program is better than the
+        value.
+
+        Args:
+            program: The task's, or it without costs.
+            value: Minimised, with the constant; None: there is to be no point at all.
+        """
         return Portfolio(
             program,
             value,
@@ -86,15 +97,30 @@ class CertificationTask:
         )
 
     def point_search(self, program: IntegerProgram) -> ParallelSearch:
-        """Searches any point of a program."""
+        """A search that has not begun, which ends with any point of the program, or a tree that
+        there is none.
+
+        Args:
+            program: The task's, without costs or within closer bounds.
+        """
         return ParallelSearch(SearchProblem(program), self.exact_point, self.deadline, self.pool)
 
     def exact_point(self, x: Sequence[Number]) -> Optional[Point]:
-        """An exact point that has the integer columns of x, which is near one."""
+        """An exact point of the task's program that has the integer columns of x, which is near
+        one; None where none is found.
+
+        Args:
+            x: By column: an answer's values, or a relaxation's in a search.
+        """
         return points.point_with_integers(self.program, x, self.deadline)
 
     def solve_relaxation(self, answer: AnswerByPlace = AnswerByPlace()) -> SolvedRelaxation:
-        """The relaxation, from the basis of an answer."""
+        """The program's relaxation, solved now by either simplex method from the basis of an
+        answer, where that has one and values.
+
+        With `proves`, and of a linear program, a solve may take what CLP gets of the deadline; else
+        ONE_LEAF_SECONDS.
+        """
         if library() is None:
             return SolvedRelaxation(None, LpStatus.OTHER)
         self.deadline.tell_step("the relaxation by CLP")

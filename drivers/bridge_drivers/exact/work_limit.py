@@ -15,16 +15,23 @@ _deadline: ContextVar[Deadline] = ContextVar("deadline of exact work", default=D
 
 
 def limit_work(deadline: Deadline) -> None:
-    """From now on all exact work ends with it."""
+    """From now on all exact work of this thread ends with the deadline, in place of the one before;
+    an endless one takes the limit away. Processes of a pool begin so."""
     _deadline.set(deadline)
 
 
 def shorten_work(deadline: Deadline) -> None:
-    """All exact work ends with this deadline, or earlier where it has less time."""
+    """All exact work of this thread ends when the seconds of this deadline are over, counted from
+    now, or with the deadline that it has, if that is earlier. At an interrupt."""
     limit_work(_deadline.get().within(deadline.left()))
 
 
 def check_work() -> None:
-    """Raises TimeOver where the time of exact work is over."""
+    """Looks at the time of exact work, in each step of a loop that can take long.
+
+    Raises:
+        TimeOver: It is over. Nothing in between catches that, so that the certifier tells what is
+            known.
+    """
     if _deadline.get().is_over():
         raise TimeOver()

@@ -3,6 +3,9 @@
 A unit is what is left of one subtree, as values that a process anywhere works for some seconds.
 Nothing but the values counts: whoever gets the same unit may work it, and the searches that a
 process keeps only save it the reading of the program.
+
+The pipeline opens a pool for a certificate (`open_pool`) and closes it; `parallel` makes a
+`WorkUnit` of a `SearchProblem` and takes the `UnitResult`.
 """
 
 from __future__ import annotations
@@ -45,9 +48,9 @@ class SearchProblem(NamedTuple):
     """What all units of a search share.
 
     Attributes:
-        program: The file's.
-        cuts: Rows below it.
-        forms: Integer forms to branch on, by column.
+        program: The file's, or it without costs or within closer bounds.
+        cuts: Rows below it: the objective's, and cuts.
+        forms: Integer forms to branch on: whole coefficients by column.
         cutoff: What leaves must show.
     """
 
@@ -59,10 +62,18 @@ class SearchProblem(NamedTuple):
     def search(
         self, deadline: SearchDeadline, exact_point: Optional[ExactPoint] = None
     ) -> BranchAndBound:
-        """A search of all of it, at its root."""
+        """A search of all of it, at its root.
+
+        Args:
+            deadline: Of this process.
+            exact_point: Makes exact points of a relaxation's values; None, as in a process of a
+                pool: by CLP, in EXACT_POINT_SECONDS each.
+        """
         searched = self.program.with_rows([*self.cuts, *map(Row, self.forms)])
 
         def near(x: Sequence[float]) -> Optional[Point]:
+            """An exact point that has the integer columns of x, by column; None where none is
+            found."""
             return points.point_with_integers(self.program, x, Deadline(EXACT_POINT_SECONDS))
 
         return BranchAndBound(searched, self.cutoff, deadline, exact_point or near, len(self.forms))
@@ -74,9 +85,10 @@ class WorkUnit(NamedTuple):
     Attributes:
         problem: The pickled SearchProblem.
         path: The branches above the subtree, from the root.
-        open_nodes: Those in it that were worked partly. What is proved of their siblings is
-            replaced by a RemoteSubtree.
+        open_nodes: Those in it that were worked partly, from its root on. What is proved of their
+            siblings is replaced by a RemoteSubtree.
         pseudocosts: Of the whole search so far.
+        seconds: Of the wall, from when a process begins with it.
     """
 
     problem: bytes
@@ -90,10 +102,12 @@ class UnitResult(NamedTuple):
     """What some seconds made of a unit.
 
     Attributes:
-        proved: The subtree, where all of it is proved.
-        open_nodes: Else what is left of it.
+        proved: The subtree, where all of it is proved. Remote subtrees of the unit stand in it as
+            they came.
+        open_nodes: Else what is left of it, from its root to where the search stands.
+        pseudocosts: Those of the unit, and what it learnt.
+        nodes: How many nodes more the subtree has; below 0 where more fell away than came.
         improved: A better point, where one was found; then the unit is as it was before.
-        nodes: How many nodes more the subtree has.
     """
 
     proved: Optional[ProvedSubtree]
@@ -110,10 +124,12 @@ _search_cache: Dict[bytes, BranchAndBound] = {}
 def work(unit: WorkUnit) -> UnitResult:
     """Works a unit; in a process of a pool.
 
-    A search that found a point, or failed, is not kept.
+    It takes a search of the same problem from `_search_cache`, or makes one, and puts it back. A
+    search that found a point, or failed, is not kept.
 
     Raises:
         SearchEnded: The search cannot go on.
+        ClpNotInstalled: This process has no library of CLP.
     """
     search = _search_cache.pop(unit.problem, None)
     if search is None:
@@ -141,32 +157,42 @@ class PoolFailed(SearchEnded):
 
 
 class WorkerPool:
-    """Works some units at once.
+    """Works some units at once; as it stands, a pool without workers.
 
     Attributes:
-        workers: How many at once; 0 where the pool failed.
-        fault: Why it failed.
-        note: Why not all of it works.
+        workers: How many at once; 0 where the pool failed, and the search goes on in this process.
+        fault: Why it failed, in words for a message; "" where it did not.
+        note: Why not all of it works, in a line for a message; "" where all does.
     """
 
     def __init__(self, workers: int, fault: str = "") -> None:
+        """A pool of which nothing is started yet.
+
+        Args:
+            workers: Units at once; 0: none are taken.
+            fault: Why there are none.
+        """
         self.workers = workers
         self.fault = fault
         self.note = ""
         self._started: Optional[Executor] = None
 
     def failed(self, fault: PoolFailed) -> None:
-        """From here on there are no workers."""
+        """From here on there are no workers: sets `fault`, and stops what is worked."""
         self.workers = 0
         self.fault = str(fault)
         self.stop()
 
     def executor(self) -> Executor:
+        """That which takes the units; pools start it when it is first asked for."""
         assert self._started is not None
         return self._started
 
     def submit(self, unit: WorkUnit) -> Future[UnitResult]:
-        """Where all processes have ended, others are started.
+        """Gives a unit to a worker. Where all processes have ended, others are started, once.
+
+        Returns:
+            The future of what `work` returns or raises.
 
         Raises:
             PoolFailed: None can be started.
@@ -178,9 +204,10 @@ class WorkerPool:
         return self.executor().submit(work, unit)
 
     def stop(self) -> None:
-        """Ends what is worked, as far as that goes."""
+        """Ends what is worked, as far as that goes. Units can be given again afterwards."""
 
     def close(self) -> None:
+        """Ends the pool, with the search for the certificate."""
         self.stop()
 
 
@@ -191,6 +218,8 @@ class ProcessPool(WorkerPool):
     _end_line: Any  # a word that is sent there ends all of them
 
     def executor(self) -> Executor:
+        """The processes' own, started here where there is none; each of them begins with
+        `start_worker`."""
         if self._started is None:
             context = multiprocessing.get_context(START_METHOD)
             end, self._end_line = context.Pipe(duplex=False)
@@ -198,6 +227,7 @@ class ProcessPool(WorkerPool):
         return self._started
 
     def submit(self, unit: WorkUnit) -> Future[UnitResult]:
+        """As of any pool; a fault of the system in starting a process is a PoolFailed."""
         with signals_blocked():  # a process begins with them blocked
             try:
                 return super().submit(unit)
@@ -205,7 +235,8 @@ class ProcessPool(WorkerPool):
                 raise PoolFailed(f"no processes for the search ({fault})") from None
 
     def stop(self) -> None:
-        """All have ended when this returns; what they worked is lost."""
+        """Ends all processes: they pause, or are broken off after GRACE_SECONDS. All have ended
+        when this returns; what they worked is lost."""
         if self._started is None:
             return
         with SIGNALS.deferred():
@@ -229,6 +260,8 @@ class DaskPool(WorkerPool):
     """
 
     def __init__(self, address: str) -> None:
+        """Connects to the scheduler, and asks all workers for their version. `workers` becomes the
+        threads of those that are fit, and `note` says where others are not."""
         try:
             distributed: Any = importlib.import_module("distributed")
             self.client = distributed.Client(address, timeout=CONNECT_SECONDS)
@@ -253,23 +286,26 @@ class DaskPool(WorkerPool):
         self._started = self.client.get_executor(pure=False, workers=fit)
 
     def close(self) -> None:
+        """Leaves the cluster."""
         self.client.close()
 
 
 def worker_version() -> str:
-    """What a worker of a cluster says that can search: its version."""
+    """What a worker of a cluster says that can search: the version of its package; "" where it has
+    no library of CLP."""
     return VERSION if library() is not None else ""
 
 
 def open_pool(jobs: int, address: str) -> Optional[WorkerPool]:
-    """The pool that a run asks for.
+    """The pool that a run asks for, of which no process is started yet.
 
     Args:
         jobs: Processes of this machine; 0: as many as this process may use processors.
         address: Of a scheduler of Dask, in place of these; "" for none.
 
     Returns:
-        None where this process searches alone. A cluster that cannot be had is a pool with a fault.
+        None where this process searches alone. A cluster that cannot be had is a pool of no workers
+        with a fault, which is told.
     """
     if address:
         try:
@@ -281,6 +317,7 @@ def open_pool(jobs: int, address: str) -> Optional[WorkerPool]:
 
 
 def usable_processors() -> int:
+    """How many processors this process may use, where the system says so, else all; at least 1."""
     if hasattr(os, "sched_getaffinity"):
         return len(os.sched_getaffinity(0))
     return os.cpu_count() or 1
@@ -288,7 +325,8 @@ def usable_processors() -> int:
 
 @contextlib.contextmanager
 def signals_blocked() -> Iterator[None]:
-    """Signals wait in the block, also in processes that are started in it."""
+    """A block in which the signals that are handled wait, also in processes that are started in it,
+    until `start_worker` lets them through."""
     old = set_signal_mask("SIG_BLOCK", HANDLED_SIGNALS)
     try:
         yield
@@ -297,16 +335,28 @@ def signals_blocked() -> Iterator[None]:
 
 
 def set_signal_mask(how: str, numbers: Iterable[int]) -> Iterable[int]:
-    """The mask that was there before; empty where a system has no masks."""
+    """Sets which signals wait in this thread.
+
+    Args:
+        how: The name in `signal` of what is done with the numbers: SIG_BLOCK, SIG_UNBLOCK or
+            SIG_SETMASK.
+
+    Returns:
+        The mask that was there before; empty where a system has no masks.
+    """
     if not hasattr(signal, "pthread_sigmask"):
         return ()
     return signal.pthread_sigmask(getattr(signal, how), numbers)
 
 
 def start_worker(end: connection.Connection) -> None:
-    """Begins a process: it ends by its parent's word, or with its parent.
+    """Begins a process of a `ProcessPool`: it ends by its parent's word, or with its parent.
 
-    What a terminal sends is the parent's.
+    SIGTERM ends it at once; what a terminal sends is the parent's, and is ignored. The limit of
+    exact work that the parent had is taken away.
+
+    Args:
+        end: The reading end of a pipe; a word in it ends the process.
     """
     for number in HANDLED_SIGNALS:
         is_end = number == signal.SIGTERM
@@ -317,7 +367,11 @@ def start_worker(end: connection.Connection) -> None:
 
 
 def _end_with_parent(end: connection.Connection) -> None:
-    """The unit pauses; where that takes long, or nobody waits for it, it is broken off."""
+    """Waits, in a thread of its own, for the parent's word or end, and then ends the process.
+
+    By the word the unit pauses first, for GRACE_SECONDS; where that takes long, or the parent has
+    ended and nobody waits for it, it is broken off.
+    """
     parent = multiprocessing.parent_process()
     assert parent is not None
     if connection.wait([end, parent.sentinel]) == [end]:

@@ -1,4 +1,7 @@
-"""The solvers, by the names of their drivers."""
+"""The solvers, by the names of their drivers; each has a module of its own.
+
+`base` says what a solver is and answers, `run` what it works with. The pipeline alone asks them.
+"""
 
 from __future__ import annotations
 

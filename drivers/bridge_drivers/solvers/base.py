@@ -1,4 +1,4 @@
-"""What a solver is, and what it answers."""
+"""What a solver is, and what it answers: the base class of all, and how their words are read."""
 
 from __future__ import annotations
 
@@ -45,6 +45,7 @@ class SolverStatus(enum.Enum):
     NO_ANSWER = "no answer"
 
     def has_point(self) -> bool:
+        """Whether an answer of this status has values of the columns."""
         points = (SolverStatus.OPTIMAL, SolverStatus.FEASIBLE, SolverStatus.LIMIT_WITH_POINT)
         return self in points
 
@@ -72,12 +73,13 @@ class SolverAnswer:
     Attributes:
         status: What the solver says of the program.
         text: The same in words.
-        values: One for each column.
-        duals: One for each row: rates of change of the objective in its own sense, as AMPL wants them.
+        values: One for each column; None where there is no point.
+        duals: One for each row: rates of change of the objective in its own sense, as AMPL wants
+            them; None where the solver tells none.
         reduced_costs: One for each column, as the duals.
-        column_basis: One for each column.
-        row_basis: One for each row.
-        objective: As the solver computed it.
+        column_basis: One for each column, of `BasisStatus`.
+        row_basis: One for each row, of `BasisStatus`.
+        objective: As the solver computed it, in the program's own sense.
         notes: Lines for the message.
         is_gap: The search stopped at a gap that was asked for.
     """
@@ -123,42 +125,69 @@ class Solver:
     infinite = ""
 
     def solve(self, run: SolverRun) -> SolverAnswer:
-        """The answer of one run.
+        """The answer of one run: writes the program, starts the solver, and reads what it wrote.
 
         Raises:
             UnclearAnswer: There is none, or it is not understood.
-            ValueError, LookupError, ArithmeticError: The answer is not in the form that it should have.
+            ValueError, LookupError, ArithmeticError: The answer is not in the form that it should
+                have.
             OSError: The solver cannot be started, or its files cannot be written.
+            Interrupted: A signal ended the run.
         """
         raise NotImplementedError
 
     def arguments(self, settings: SolverSettings, *, is_retry: bool = False) -> list[str]:
-        """The solver's words for what is asked, and the user's own behind them."""
+        """The solver's words for what is asked, and the user's own behind them.
+
+        Args:
+            settings: Of which those are told that the solver knows.
+            is_retry: It is asked once more, in the way of `retry_words`.
+        """
         return list(settings.arguments)
 
     def find(self, named: str = "") -> str | None:
-        """The path of the executable: the named one, or the one on the PATH."""
+        """The path of the executable; None where it is not found.
+
+        Args:
+            named: What the user gave, a path or a name on the PATH; "": that of the class is looked
+                for.
+        """
         return shutil.which(named or self.executable)
 
     def mps_text(self, program: LinearProgram) -> bytes:
-        """The program as MPS that this solver reads rightly."""
+        """The program as MPS in a form that this solver reads rightly.
+
+        Args:
+            program: With whole bounds of integer columns, unless it is relaxed.
+        """
         return program.text
 
     def reading_arguments(self, program: LinearProgram, path: str) -> list[str]:
-        """The words by which the solver reads the MPS file at a path and solves it."""
+        """The words by which the solver reads the MPS file at a path and solves it; no settings.
+
+        Args:
+            program: What stands in the file; its sense may need a word.
+            path: Of a file with `mps_text`.
+        """
         return [path]
 
     def command_line(self, program: LinearProgram, path: str, named: str = "") -> list[str]:
-        """How one calls it by hand on the MPS file at a path."""
+        """How one calls it by hand on the MPS file at a path, where a driver only writes that.
+
+        Args:
+            program: What stands in the file.
+            path: Of the file.
+            named: The executable that the user gave; "" for the usual one.
+        """
         return [named or self.executable, *self.reading_arguments(program, path)]
 
     def title_with_version(self, log: str) -> str:
-        """The title, with the version where the log tells it."""
+        """The title of messages, with the version where the solver's log tells it: `CBC 2.10.8`."""
         found = re.search(self.version_pattern, log) if self.version_pattern else None
         return f"{self.title} {found[1]}" if found else self.title
 
     def huge_notes(self, program: LinearProgram) -> list[str]:
-        """A line where the program has sides or bounds that this solver may take for none."""
+        """A line, or none, on sides or bounds of the program that this solver may take for none."""
         count = program.count_of_huge(float(self.infinite)) if self.infinite else 0
         if not count:
             return []
@@ -169,7 +198,15 @@ class Solver:
         ]
 
     def progress_of_line(self, line: str, program: LinearProgram) -> dict[str, float]:
-        """The numbers that a line of the log tells, by the names of the patterns' groups."""
+        """The numbers that a line of the log tells, by the names of the patterns' groups.
+
+        Values are in the program's own sense. The first pattern that fits counts; what is no
+        number, or from NO_INCUMBENT on, is left out.
+
+        Args:
+            line: Of the log.
+            program: What is solved.
+        """
         matches = (re.search(pattern, line) for pattern in self.progress_patterns)
         found = next(filter(None, matches), None)
         if found is None:
@@ -182,18 +219,29 @@ class Solver:
 
 
 def status_of(told: Sequence[ToldStatus], words: str) -> ToldStatus | None:
-    """The status of these words, in capitals or not; None of words that no solver of ours is known to say."""
+    """The entry of a solver's table whose words, letters or number are exactly these.
+
+    Capitals and outer blanks aside. None: the table has no such entry.
+    """
     wanted = words.strip().lower()
     return next((one for one in told if one.words.lower() == wanted), None)
 
 
 def status_in_log(told: Sequence[ToldStatus], log: str) -> ToldStatus | None:
-    """The first status whose words stand in a log."""
+    """The first entry of a solver's table whose words stand in a log; None where none does.
+
+    The order of the table decides, not that of the log. Capitals count.
+    """
     return next((one for one in told if one.words in log), None)
 
 
 def limit_answer(why: str, *, has_point: bool = False) -> SolverAnswer:
-    """The answer of a solver that a limit stopped."""
+    """The answer, still without numbers, of a solver that a limit stopped.
+
+    Args:
+        why: Which limit, as `the time limit`.
+        has_point: There is a feasible solution.
+    """
     status = SolverStatus.LIMIT_WITH_POINT if has_point else SolverStatus.LIMIT
     ending = "with" if has_point else "without"
     return SolverAnswer(status, f"stopped at {why} {ending} a feasible solution")
@@ -202,8 +250,13 @@ def limit_answer(why: str, *, has_point: bool = False) -> SolverAnswer:
 def answer_without_file(finished: Finished, fault_pattern: str) -> SolverAnswer:
     """The answer of a run that wrote none: that of its limit, where it was killed at it.
 
+    Args:
+        finished: How the run ended.
+        fault_pattern: What is searched in the lines of its log, capitals aside.
+
     Raises:
-        UnclearAnswer: It ended by itself; with the first line of its log that has the pattern.
+        UnclearAnswer: It ended by itself. The text is the first line of its log that has the
+            pattern, or its last line where none has.
     """
     if finished.is_killed:
         return limit_answer(TIME_LIMIT)
@@ -216,10 +269,15 @@ def answer_without_file(finished: Finished, fault_pattern: str) -> SolverAnswer:
 def answer_of_status(told: ToldStatus | None, words: str, *, has_point: bool) -> SolverAnswer:
     """The answer, still without numbers, of a status that the solver words so.
 
-    A status that is not known (None), or that says little, is a point where there is one.
+    A status that is not known, or that says little, is a point where there is one.
+
+    Args:
+        told: The entry of the solver's table; None: it has none.
+        words: The solver's own, for a message.
+        has_point: The solver gave values.
 
     Raises:
-        UnclearAnswer: There is none.
+        UnclearAnswer: The status says little, and there is no point.
     """
     says_little = (SolverStatus.FEASIBLE, SolverStatus.NO_ANSWER)
     if told is None or told.status in says_little:
@@ -234,14 +292,19 @@ def answer_of_status(told: ToldStatus | None, words: str, *, has_point: bool) ->
 
 
 def within_gap(answer: SolverAnswer) -> None:
-    """Makes of an optimal answer one that a gap may have ended."""
+    """Changes an optimal answer into one of a search that a gap may have ended: a feasible
+    point.
+    """
     answer.status = SolverStatus.FEASIBLE
     answer.text = GAP_SOLUTION
     answer.is_gap = True
 
 
 def read_lines(path: str) -> list[str] | None:
-    """The lines of an answer; None where the solver wrote none."""
+    """The lines of an answer's file, without their ends; None where the solver wrote none.
+
+    What is not UTF-8 becomes the replacement character.
+    """
     try:
         with open(path, encoding="utf-8", errors="replace") as file:
             return file.read().splitlines()

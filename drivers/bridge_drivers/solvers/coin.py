@@ -1,6 +1,7 @@
 """CBC, COIN-OR's branch and cut, for mixed integer programs, and CLP, its simplex method.
 
-CLP relaxes integer columns without a word. Both read MPS by CoinUtils, and save answers as CLP does.
+CLP relaxes integer columns without a word. Both read MPS by CoinUtils, and save answers as CLP
+does.
 """
 
 from __future__ import annotations
@@ -66,7 +67,7 @@ class SavedSolution(NamedTuple):
 
 
 class Coin(Solver):
-    """What CBC and CLP have in common."""
+    """What CBC and CLP have in common: how they are called, and the files of their answers."""
 
     infinite = "1e25"  # of upper bounds; of others 1e30
     progress_patterns = (
@@ -78,7 +79,7 @@ class Coin(Solver):
     )
 
     def progress_of_line(self, line: str, program: LinearProgram) -> dict[str, float]:
-        """CBC minimises, and tells of what it minimises."""
+        """As of `Solver`. CBC tells of what it minimises, so that signs of a maximum are turned."""
         known = super().progress_of_line(line, program)
         if program.maximise and "Cbc00" in line:
             for name in ("incumbent", "bound"):
@@ -87,7 +88,11 @@ class Coin(Solver):
         return known
 
     def solve(self, run: SolverRun) -> SolverAnswer:
-        """CoinUtils ignores OBJSENSE: a maximum is asked for by a word."""
+        """Calls CBC or CLP by words that it works through in their order, and reads its answer.
+
+        CoinUtils ignores OBJSENSE: a maximum is asked for by a word. A basis is written of a
+        program without integer columns. Raises as `Solver.solve`.
+        """
         path = run.write("coin.mps", self.mps_text(run.written))
         command = "-solve"
         if run.settings.relax and self.takes_integers:
@@ -103,13 +108,19 @@ class Coin(Solver):
         return read_answer(run, run.start([*words, "-quit"]))
 
     def mps_text(self, program: LinearProgram) -> bytes:
-        """To CoinUtils a line `NAME nl` means fixed columns; and numbers of more digits than it reads are doubles."""
+        """The text with another first line, and doubles in place of numbers of too many digits.
+
+        To CoinUtils a line `NAME nl` means fixed columns. Of a number with more than MOST_DIGITS
+        digits it does not read the value rightly, so that the shortest decimal of its double stands
+        there.
+        """
         text = FREE_NAME + program.text[len(WRITTEN_NAME) :]
         if b"0" * (MOST_DIGITS + 1) not in text.translate(AS_ZEROS):
             return text
         return b"\n".join(map(_with_double, text.split(b"\n")))
 
     def reading_arguments(self, program: LinearProgram, path: str) -> list[str]:
+        """The path, the sense, and the words that solve and print the solution."""
         sense = ["-max"] if program.maximise else []
         return [path, *sense, "-solve", "-solution", "stdout"]
 
@@ -126,7 +137,7 @@ class Cbc(Coin):
     options = (SolverOption.MIP_GAP, SolverOption.THREADS)
 
     def arguments(self, settings: SolverSettings, *, is_retry: bool = False) -> list[str]:
-        """Its time limit is one of the clock, not of the processor."""
+        """As of `Solver`. Its time limit is one of the clock, not of the processor."""
         words = []
         if settings.time_limit:
             words += ["-timeMode", "elapsed", "-sec", f"{settings.time_limit:g}"]
@@ -151,6 +162,7 @@ class Clp(Coin):
     takes_integers = False
 
     def arguments(self, settings: SolverSettings, *, is_retry: bool = False) -> list[str]:
+        """As of `Solver`; it knows of no gap and no threads."""
         words = []
         if settings.time_limit:
             words += ["-sec", f"{settings.time_limit:g}"]
@@ -160,7 +172,10 @@ class Clp(Coin):
 
 
 def _with_double(line: bytes) -> bytes:
-    """A line whose last number is a double where CoinUtils would not read all its digits."""
+    """A line whose last word is the shortest decimal of its double, where it has too many digits.
+
+    A line whose last word is no number, or has at most MOST_DIGITS digits, stays.
+    """
     start, blank, number = line.rpartition(b" ")
     mantissa = number.lstrip(b"+-").lower().partition(b"e")[0]
     if not blank or len(mantissa) <= MOST_DIGITS or mantissa.strip(b".0123456789"):
@@ -171,8 +186,12 @@ def _with_double(line: bytes) -> bytes:
 def read_saved_solution(program: LinearProgram, path: str) -> SavedSolution:
     """The doubles of -saveSolution; what -solution prints has eight digits.
 
-    The file has two ints, the numbers of rows and columns, then doubles: the objective, the activities
-    of rows, their duals, the values of columns, their reduced costs.
+    The file has two ints, the numbers of rows and columns, then doubles: the objective, the
+    activities of rows, their duals, the values of columns, their reduced costs.
+
+    Args:
+        program: What was solved.
+        path: Of the file.
 
     Raises:
         UnclearAnswer: There is no file, or it is of another program.
@@ -195,7 +214,18 @@ def read_saved_solution(program: LinearProgram, path: str) -> SavedSolution:
 
 
 def read_answer(run: SolverRun, finished: Finished) -> SolverAnswer:
-    """The answer, whose status is the first line of -solution."""
+    """The answer of CBC or CLP, whose status is in the first line of -solution.
+
+    Values are those of -saveSolution. Duals, reduced costs and the basis are read of an optimal
+    answer without integer columns.
+
+    Args:
+        run: Whose folder has the files.
+        finished: How the process ended; its log tells what no file does.
+
+    Raises:
+        UnclearAnswer: There is no answer, or its status says little and has no point.
+    """
     lines = read_lines(run.path("answer.txt"))
     if not lines:
         return answer_without_file(finished, FAULT_PATTERN)
@@ -220,5 +250,9 @@ def read_answer(run: SolverRun, finished: Finished) -> SolverAnswer:
 
 
 def is_undecided(log: str) -> bool:
-    """Whether CBC's preprocessing says that the relaxation is infeasible or unbounded, and nothing else was solved."""
+    """Whether CBC's log leaves open if the program is infeasible or unbounded.
+
+    So it is where its preprocessing says of the relaxation that it is one of both, and nothing else
+    was solved.
+    """
     return "infeasible or unbounded" in log and "Continuous objective value is" not in log

@@ -67,11 +67,16 @@ class Esolver(Solver):
     takes_integers = False
 
     def arguments(self, settings: SolverSettings, *, is_retry: bool = False) -> list[str]:
+        """As of `Solver`; of the settings it takes the time limit alone."""
         limit = ["-R", f"{settings.time_limit:g}"] if settings.time_limit else []
         return [*limit, *settings.arguments]
 
     def solve(self, run: SolverRun) -> SolverAnswer:
-        """By the status in its answer; where there is none, by the limits in its log."""
+        """Calls esolver, and reads its answer by the status there, else by the limits in its log.
+
+        A run that had a time limit, or was killed, and says nothing clear counts as stopped at it.
+        Raises as `Solver.solve`.
+        """
         solution = run.path("answer.sol")
         basis_file = run.path("answer.bas")
         path = run.write("esolver.mps", self.mps_text(run.written))
@@ -92,7 +97,10 @@ class Esolver(Solver):
         return answer_of_status(told, head, has_point=False)
 
     def mps_text(self, program: LinearProgram) -> bytes:
-        """With a row and a column where there are none: without them it is a `Data Error`."""
+        """The text with a row and a column where there are none: without them it is a `Data Error`.
+
+        Both are called `none`, and are not read of the answer.
+        """
         text = program.text
         if not program.names.rows:
             text = text.replace(b"\nCOLUMNS\n", b"\n L none\nCOLUMNS\n", 1)
@@ -102,7 +110,18 @@ class Esolver(Solver):
 
 
 def optimal_answer(program: LinearProgram, lines: Sequence[str], basis_file: str) -> SolverAnswer:
-    """Exact numbers; the objective with the constant that esolver leaves out."""
+    """An optimal answer: exact numbers, and the basis where there is a file of one.
+
+    Its objective has the constant that esolver leaves out.
+
+    Args:
+        program: What was solved.
+        lines: Of the answer.
+        basis_file: Its path.
+
+    Raises:
+        ValueError: A number has another form.
+    """
     read = read_values(program, lines)
     answer = SolverAnswer(
         SolverStatus.OPTIMAL,
@@ -119,7 +138,10 @@ def optimal_answer(program: LinearProgram, lines: Sequence[str], basis_file: str
 
 
 def read_values(program: LinearProgram, lines: Sequence[str]) -> ReadValues:
-    """The line `Value = p/q`, and the lines `NAME = p/q` below each heading; what has no line is 0."""
+    """The line `Value = p/q`, and the lines `NAME = p/q` below each heading.
+
+    What has no line is 0; the objective is still without its constant.
+    """
     sections: dict[str, dict[str, Fraction]] = {name: {} for name in SECTIONS}
     section: dict[str, Fraction] | None = None
     objective = ZERO
@@ -133,6 +155,7 @@ def read_values(program: LinearProgram, lines: Sequence[str]) -> ReadValues:
             section[word] = Fraction(number)
 
     def listed(heading: str, names: Sequence[str]) -> list[Fraction]:
+        """The numbers below a heading, in the order of these names."""
         return [sections[heading].get(name, ZERO) for name in names]
 
     return ReadValues(

@@ -1,4 +1,4 @@
-"""GLPK's glpsol: mixed integer programs."""
+"""GLPK's glpsol, for linear and mixed integer programs."""
 
 from __future__ import annotations
 
@@ -116,7 +116,7 @@ class Glpsol(Solver):
     )
 
     def arguments(self, settings: SolverSettings, *, is_retry: bool = False) -> list[str]:
-        """Its time limit is a whole number of seconds."""
+        """As of `Solver`. Its time limit is a whole number of seconds, rounded up."""
         words = []
         if settings.relax:
             words.append("--nomip")
@@ -131,6 +131,9 @@ class Glpsol(Solver):
         return [*words, *settings.arguments]
 
     def solve(self, run: SolverRun) -> SolverAnswer:
+        """Calls glpsol, and reads its file and its log; asked once more, it checks its basis
+        exactly.
+        """
         path = run.write("glpsol.mps", self.mps_text(run.written))
         words = [*self.reading_arguments(run.program, path), "-w", run.path("answer.txt")]
         if run.is_retry and not run.settings.exact_check:
@@ -139,7 +142,11 @@ class Glpsol(Solver):
         return read_answer(run, run.start([run.executable, *words]))
 
     def mps_text(self, program: LinearProgram) -> bytes:
-        """Without OBJSENSE, which is an error to it, and with minus the side of the objective row, which it adds."""
+        """The text without OBJSENSE, and with another sign of the objective's right-hand side.
+
+        OBJSENSE is an error to glpsol. The side of the objective row it adds, where others subtract
+        it.
+        """
         text = program.text.replace(b"OBJSENSE\n MAX\n", b"", 1)
         side = program.objective_rhs
         negated = "-" + side
@@ -150,14 +157,21 @@ class Glpsol(Solver):
         return text.replace(f"\n RHS obj {side}\n".encode(), f"\n RHS obj {negated}\n".encode(), 1)
 
     def reading_arguments(self, program: LinearProgram, path: str) -> list[str]:
+        """The path and the sense, which the text has not."""
         return ["--freemps", path, "--max" if program.maximise else "--min"]
 
 
 def read_answer(run: SolverRun, finished: Finished) -> SolverAnswer:
-    """By the file where it says optimal, else by the log.
+    """The answer by the file where that says optimal, else by the log.
 
-    The status line of the file is `s bas ROWS COLUMNS PRIMAL DUAL OBJECTIVE` of a basic solution, and
-    `s mip ROWS COLUMNS STATUS OBJECTIVE` of a mixed integer program.
+    The status line of the file is `s bas ROWS COLUMNS PRIMAL DUAL OBJECTIVE` of a basic solution,
+    and `s mip ROWS COLUMNS STATUS OBJECTIVE` of a mixed integer program. Duals and the basis are
+    read of an optimal basic solution alone.
+
+    Raises:
+        UnclearAnswer: There is no answer, its status says little and has no point, or a line is
+            missing.
+        ValueError, LookupError: A line has another form.
     """
     told = status_in_log(LOG_STATUSES, finished.log)
     lines = read_lines(run.path("answer.txt"))
@@ -179,14 +193,32 @@ def read_answer(run: SolverRun, finished: Finished) -> SolverAnswer:
 
 
 def answer_of_log(finished: Finished, told: ToldStatus | None) -> SolverAnswer:
-    """The answer where no file was written: what the log tells, but of a run that was killed."""
+    """The answer where no file was written: by the log, or that of a limit where it was killed.
+
+    Args:
+        finished: How the process ended.
+        told: The entry of LOG_STATUSES that the log has; None: it has none.
+
+    Raises:
+        UnclearAnswer: Nothing tells how it ended.
+    """
     if told is not None and not finished.is_killed:
         return answer_of_status(told, told.words, has_point=False)
     return answer_without_file(finished, FAULT_PATTERN)
 
 
 def answer_of_letters(letters: str, told: ToldStatus | None) -> SolverAnswer:
-    """The status of the letters in a file, or, where these do not say optimal, what the log told."""
+    """The answer, still without numbers, by the letters in a file and the sentence in the log.
+
+    Where the letters do not say optimal, the log decides, if it has a known sentence.
+
+    Args:
+        letters: Of the status line: one of a mixed integer program, two of a basic solution.
+        told: The entry of LOG_STATUSES that the log has; None: it has none.
+
+    Raises:
+        UnclearAnswer: Its status says little and has no point.
+    """
     of_file = status_of(FILE_STATUSES, letters)
     points = (SolverStatus.OPTIMAL, SolverStatus.FEASIBLE, SolverStatus.LIMIT)
     has_point = of_file is None or of_file.status in points
@@ -199,13 +231,20 @@ def answer_of_letters(letters: str, told: ToldStatus | None) -> SolverAnswer:
 def read_point(
     program: LinearProgram, lines: Sequence[str], answer: SolverAnswer, *, place: int
 ) -> None:
-    """The values of columns, the words at one place of the lines `j COLUMN ..`, into an answer."""
+    """Sets the values of an answer: of each line `j COLUMN ..` the word at one place.
+
+    Args:
+        place: 3 of a basic solution, -1 of a mixed integer program.
+    """
     columns = _records(lines, "j ", len(program.names.columns))
     answer.values = [float(words[place]) for words in columns]
 
 
 def read_basic_solution(program: LinearProgram, lines: Sequence[str], answer: SolverAnswer) -> None:
-    """Lines `i ROW letter activity dual` and `j COLUMN letter value cost` into an answer."""
+    """Sets values, duals, reduced costs and the basis of an answer, by a file's lines.
+
+    They are `i ROW letter activity dual` and `j COLUMN letter value cost`, by number from 1.
+    """
     rows = _records(lines, "i ", len(program.names.rows))
     columns = _records(lines, "j ", len(program.names.columns))
     answer.values = [float(words[3]) for words in columns]
@@ -216,7 +255,14 @@ def read_basic_solution(program: LinearProgram, lines: Sequence[str], answer: So
 
 
 def _records(lines: Sequence[str], start: str, count: int) -> list[list[str]]:
-    """The words of the lines of one kind, in the order of their numbers, from 1 to `count`."""
+    """The words of the lines of one kind, in the order of their numbers, from 1 to `count`.
+
+    Args:
+        start: What such a line begins with.
+
+    Raises:
+        UnclearAnswer: A number is missing, or stands twice.
+    """
     records = [line.split() for line in lines if line.startswith(start)]
     numbers = [int(words[1]) for words in records]
     if numbers != list(range(1, count + 1)):

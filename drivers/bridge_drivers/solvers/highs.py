@@ -1,4 +1,7 @@
-"""HiGHS, as SciPy has it: mixed integer programs. It runs in a Python of its own, Debian's first."""
+"""HiGHS, as SciPy has it, for linear and mixed integer programs.
+
+It runs in a Python of its own, Debian's first, which `highs_script` is given to.
+"""
 
 from __future__ import annotations
 
@@ -71,7 +74,11 @@ class Highs(Solver):
     options = (SolverOption.MIP_GAP,)
 
     def find(self, named: str = "") -> str | None:
-        """A Python that has SciPy."""
+        """The path of a Python that has SciPy; None where there is none.
+
+        Args:
+            named: A path or a name on the PATH; "": those of PLACES are tried.
+        """
         for word in (named,) if named else PLACES:
             path = shutil.which(word)
             if path and has_scipy(path):
@@ -79,10 +86,15 @@ class Highs(Solver):
         return None
 
     def command_line(self, program: LinearProgram, path: str, named: str = "") -> list[str]:
+        """The script with the path alone: it solves with its usual words, and prints its answer."""
         return [self.find(named) or PLACES[0], SCRIPT, path]
 
     def solve(self, run: SolverRun) -> SolverAnswer:
-        """By the object that the script writes."""
+        """Runs the script, and reads the object that it writes in JSON.
+
+        Raises:
+            UnclearAnswer: The program has no columns, or as `Solver.solve`.
+        """
         if not run.program.names.columns:
             raise UnclearAnswer("it takes no program without columns")
         words = {
@@ -102,7 +114,7 @@ class Highs(Solver):
 
 
 def has_scipy(path: str) -> bool:
-    """Whether the Python at a path has SciPy."""
+    """Whether the Python at a path has SciPy; not where it cannot be started, or takes a minute."""
     try:
         return run_program([path, "-c", LOOKS_FOR_SCIPY], Deadline(LOOK_SECONDS)).status == 0
     except OSError:
@@ -110,9 +122,18 @@ def has_scipy(path: str) -> bool:
 
 
 def read_answer(run: SolverRun, told: Mapping[str, object]) -> SolverAnswer:
-    """By HiGHS's own status, whose number stands in SciPy's message, else by SciPy's.
+    """The answer by HiGHS's own status, whose number stands in SciPy's message, else by SciPy's.
 
-    `told` is the object that `highs_script` writes.
+    An optimal one counts as within the gap where a gap was asked for and a relative one above
+    CLOSED_GAP is left.
+
+    Args:
+        run: What was asked.
+        told: The object that `highs_script` writes.
+
+    Raises:
+        UnclearAnswer: There is no point and no clear status, or a list has another length.
+        KeyError: A part of the object is missing.
     """
     message = str(told["message"])
     own = STATUS_OF_HIGHS.search(message)
@@ -132,7 +153,11 @@ def read_answer(run: SolverRun, told: Mapping[str, object]) -> SolverAnswer:
 
 
 def _numbers(told: Mapping[str, object], key: str, count: int) -> list[float] | None:
-    """A list of so many doubles; None where there is none."""
+    """A list of `count` doubles of the script's object; None where it has none.
+
+    Raises:
+        UnclearAnswer: It has another length, or is no list.
+    """
     found = told.get(key)
     if found is None:
         return None

@@ -2,9 +2,10 @@
 
     highs_script.py MPS [ANSWER WORDS]
 
-WORDS is a JSON text. The file ANSWER, else standard output, gets one: `status` as SciPy tells it, `message`,
-and where there are any, `values` and `costs` by column and `duals` by row, as rates of change of the
-objective in its own sense.
+WORDS is a JSON text of what USUAL_WORDS has. The file ANSWER, else standard output, gets one:
+`status` as SciPy tells it, `message`, of a mixed integer program `gap`, and where there are any,
+`values` and `costs` by column and `duals` by row, as rates of change of the objective in its own
+sense.
 """
 
 from __future__ import annotations
@@ -38,12 +39,12 @@ class DoubleArrays:
     Attributes:
         sign: -1 where the program is maximised, else 1.
         costs: One for each column, times the sign.
-        lower: Of the columns.
-        upper: Of the columns.
+        lower: Of the columns; minus infinity for none.
+        upper: Of the columns; infinity for none.
         is_integer: 1 for each integer column, else 0.
-        row_lower: Of the rows.
-        row_upper: Of the rows.
-        matrix: The rows.
+        row_lower: Of the rows; minus infinity for none.
+        row_upper: Of the rows; infinity for none.
+        matrix: The rows, a CSR matrix.
     """
 
     def __init__(self, program: LinearProgram) -> None:
@@ -64,13 +65,16 @@ class DoubleArrays:
 
 
 def options_of(words: Words) -> Dict[str, Any]:
-    """The options that SciPy's two functions have in common."""
+    """The options that SciPy's two functions have in common, of the words' names."""
     limit = {"time_limit": words["seconds"]} if words["seconds"] else {}
     return {"disp": words["disp"], "presolve": words["presolve"], **limit}
 
 
 def solve_mip(arrays: DoubleArrays, words: Words) -> Dict[str, Any]:
-    """A mixed integer program by `milp`."""
+    """Solves a mixed integer program by `milp`; the object that is written, without duals.
+
+    Its gap is the relative one, at most LARGEST_GAP; None where SciPy tells none.
+    """
     constraints = None
     if len(arrays.row_lower):
         constraints = LinearConstraint(arrays.matrix, arrays.row_lower, arrays.row_upper)
@@ -91,7 +95,12 @@ def solve_mip(arrays: DoubleArrays, words: Words) -> Dict[str, Any]:
 
 
 def solve_lp(arrays: DoubleArrays, words: Words) -> Dict[str, Any]:
-    """A linear program by `linprog`, which takes equations, and rows with an upper side alone."""
+    """Solves a linear program by `linprog`, which takes equations and rows with an upper side.
+
+    Returns:
+        The object that is written. Duals and reduced costs, of an optimal answer alone, are sums of
+            the marginals of both sides, times the sign: rates of the objective in its own sense.
+    """
     lower, upper = arrays.row_lower, arrays.row_upper
     equal = numpy.flatnonzero(lower == upper)
     below = numpy.flatnonzero((lower != upper) & (upper < INFINITE))
@@ -127,7 +136,7 @@ def solve_lp(arrays: DoubleArrays, words: Words) -> Dict[str, Any]:
 
 
 def main() -> None:
-    """The script."""
+    """Reads the program and the words, solves, and writes the answer; the log goes before it."""
     signal.signal(signal.SIGINT, signal.SIG_DFL)  # HiGHS keeps no point where it is ended
     with open(sys.argv[1], "rb") as source:
         arrays = DoubleArrays(LinearProgram.of(source.read()))

@@ -1,7 +1,7 @@
-"""lp_solve: mixed integer programs.
+"""lp_solve, for linear and mixed integer programs.
 
-Its printed answers have six digits. 1e30 is infinite to it, in what it prints too, so that a column at
-1e30 may have no end.
+Its printed answers have six digits. 1e30 is infinite to it, in what it prints too, so that a column
+at 1e30 may have no end.
 """
 
 from __future__ import annotations
@@ -53,14 +53,24 @@ GAP_WORDS = frozenset(
 
 
 class ReadHead(NamedTuple):
-    """What stands before the values: the objective, and the first other line, "" where there is none."""
+    """What stands before the values in the log.
+
+    Attributes:
+        objective: In the program's own sense; 0 where no line tells it.
+        odd_line: The first other line; "" where there is none.
+    """
 
     objective: float
     odd_line: str
 
 
 class ReadValues(NamedTuple):
-    """Numbers by name of column; rates of change by name of row or column."""
+    """The numbers of a log.
+
+    Attributes:
+        values: By name of column.
+        rates: Duals by name of row, reduced costs by name of column.
+    """
 
     values: Mapping[str, float]
     rates: Mapping[str, float]
@@ -78,7 +88,7 @@ class LpSolve(Solver):
     options = (SolverOption.MIP_GAP,)
 
     def arguments(self, settings: SolverSettings, *, is_retry: bool = False) -> list[str]:
-        """Its time limit is a whole number of seconds."""
+        """As of `Solver`. Its time limit is a whole number of seconds, rounded up."""
         words = []
         if settings.relax:
             words.append("-noint")
@@ -91,7 +101,11 @@ class LpSolve(Solver):
         return [*words, *settings.arguments]
 
     def solve(self, run: SolverRun) -> SolverAnswer:
-        """By what it prints: a status, or values without one, which are optimal."""
+        """Calls lp_solve, and reads its log: a status, or values without one, which are optimal.
+
+        A run with a time limit, or that was killed, and that says nothing counts as stopped at it.
+        Raises as `Solver.solve`.
+        """
         path = run.write("lp_solve.mps", run.written.text)
         words = self.reading_arguments(run.program, path)
         words += self.arguments(run.settings, is_retry=run.is_retry)
@@ -108,15 +122,28 @@ class LpSolve(Solver):
         return read_answer(run, answer, finished, stops_at_gap=bool(GAP_WORDS.intersection(words)))
 
     def reading_arguments(self, program: LinearProgram, path: str) -> list[str]:
-        """Without -mps_negobjconst it adds the side of the objective row."""
+        """The path, and words for all values to be printed and for the sign of the constant.
+
+        Without -mps_negobjconst it adds the side of the objective row, where others subtract it.
+        """
         return ["-fmps", path, "-S4", "-mps_negobjconst"]
 
 
 def answer_of_head(run: SolverRun, told: ToldStatus, head: str, *, has_point: bool) -> SolverAnswer:
-    """The status and objective of what stands before the values.
+    """The answer, still without values, by the status and what stands before the values.
 
-    What lp_solve calls suboptimal is an answer at a limit where there is one. A line before the values
-    that is none of its statuses speaks against `optimal`, unless the user's own words may have made it.
+    What lp_solve calls suboptimal is an answer at a limit where there is one. A line before the
+    values that is none of its statuses speaks against `optimal`, unless the user's own words may
+    have made it.
+
+    Args:
+        run: What was asked.
+        told: The entry of STATUSES that the head has, or OPTIMAL.
+        head: The log as far as the values.
+        has_point: There are values.
+
+    Raises:
+        UnclearAnswer: The status says little, and there are no values.
     """
     if told.words == SUBOPTIMAL and run.settings.time_limit:
         told = told._replace(status=SolverStatus.LIMIT, text=TIME_LIMIT)
@@ -131,7 +158,7 @@ def answer_of_head(run: SolverRun, told: ToldStatus, head: str, *, has_point: bo
 
 
 def read_head(head: str) -> ReadHead:
-    """The objective, and the first line that is not its."""
+    """The objective, and the first line that does not tell it, of the log as far as the values."""
     lines = [line.strip() for line in head.splitlines() if line.strip()]
     objectives = [float(line.split()[-1]) for line in lines if line.startswith(OBJECTIVE)]
     others = [line for line in lines if not line.startswith(OBJECTIVE)]
@@ -141,7 +168,18 @@ def read_head(head: str) -> ReadHead:
 def read_answer(
     run: SolverRun, answer: SolverAnswer, finished: Finished, *, stops_at_gap: bool
 ) -> SolverAnswer:
-    """An answer with its numbers."""
+    """The answer with its numbers, or `unbounded` where 1e30 stands for infinity.
+
+    Args:
+        run: What was asked.
+        answer: One with a point and an objective; it is changed.
+        finished: Whose log has the numbers.
+        stops_at_gap: Words were given with which it may stop at a gap: an optimal answer of a
+            program with integer columns is then one within the gap.
+
+    Raises:
+        UnclearAnswer: Not all columns have a value.
+    """
     program = run.program
     read = read_values(finished.log)
     if set(read.values) != set(program.names.columns):
@@ -160,7 +198,11 @@ def read_answer(
 
 
 def take_rates(program: LinearProgram, read: ReadValues, answer: SolverAnswer) -> None:
-    """Duals and reduced costs into an answer, where each row has a dual."""
+    """Sets duals and reduced costs of an answer, where each row has a dual; else nothing.
+
+    Raises:
+        KeyError: A column has no reduced cost.
+    """
     rows = program.names.rows
     if all(name in read.rates for name in rows):
         answer.duals = [read.rates[name] for name in rows]
@@ -168,7 +210,11 @@ def take_rates(program: LinearProgram, read: ReadValues, answer: SolverAnswer) -
 
 
 def is_at_infinity(program: LinearProgram, values: Sequence[float]) -> bool:
-    """Whether a column at 1e30 is at no bound of its own."""
+    """Whether a column is at 1e30 or beyond in size, and not at a bound of its own.
+
+    Args:
+        values: By column.
+    """
     lower, upper = program.lower.tolist(), program.upper.tolist()
     return any(
         abs(value) >= INFINITE and value not in (low, high)
@@ -177,7 +223,10 @@ def is_at_infinity(program: LinearProgram, values: Sequence[float]) -> bool:
 
 
 def read_values(log: str) -> ReadValues:
-    """The lines `NAME NUMBER ..` below the headings of values and of duals, each to an empty line."""
+    """The numbers of the lines `NAME NUMBER ..` below the headings of values and of duals.
+
+    Each list goes as far as an empty line, or the heading of the constraints' values.
+    """
     values: dict[str, float] = {}
     rates: dict[str, float] = {}
     section: dict[str, float] | None = None

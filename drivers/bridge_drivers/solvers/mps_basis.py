@@ -16,18 +16,21 @@ COLUMN_SIDES = {"BS": BasisStatus.BASIC, "UL": BasisStatus.AT_UPPER}
 
 
 class ReadBasis(NamedTuple):
-    """Where columns and rows stand, each in the order of the program."""
+    """Where columns and rows stand in a basis, each in the order of the program."""
 
     columns: list[BasisStatus]
     rows: list[BasisStatus]
 
 
 def read_mps_basis(program: LinearProgram, path: str) -> ReadBasis | None:
-    """The basis of a file; None where there is no file.
+    """The basis of a file in MPS format; None where there is no file.
 
-    Columns are at their lower bounds and rows are basic, but for those that the lines name: `XU` and
-    `XL` have a basic column and a row at its upper or lower side, `UL` a column at its upper bound,
-    `BS` a basic one. A row of kind E or L has one side alone, whatever the letter says.
+    Columns are at their lower bounds and rows are basic, but for those that the lines name: `XU`
+    and `XL` have a basic column and a row at its upper or lower side, `UL` a column at its upper
+    bound, `BS` a basic one. A row of kind E or L has one side alone, whatever the letter says.
+
+    Raises:
+        IndexError: A line has too few words.
     """
     lines = read_lines(path)
     if lines is None:

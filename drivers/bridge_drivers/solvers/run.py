@@ -23,8 +23,8 @@ class Finished(NamedTuple):
     """How a solver's process ended.
 
     Attributes:
-        status: Its exit status, negative after a signal.
-        log: What it wrote on standard output and standard error.
+        status: Its exit status; minus the number of the signal that ended it.
+        log: What it wrote on standard output and standard error, as it came.
         is_killed: It went on past its time limit, and was killed.
     """
 
@@ -34,19 +34,26 @@ class Finished(NamedTuple):
 
 
 class RunObserver:
-    """Is told what a run does. What is not overridden is not wanted."""
+    """Is told what a run does. What is not overridden is not wanted. See `pipeline.monitor`."""
 
     def command_starts(self, argv: Sequence[str], folder: str) -> None:
-        """A process is started in a folder."""
+        """A process is about to start with these words in a folder, whose files have plain
+        names.
+        """
 
     def stage_begins(self, stage: str, limit: float) -> None:
-        """What is worked at from now on, and its limit of time in seconds, 0 for none; "" when it ends."""
+        """Something is worked at from now on.
+
+        Args:
+            stage: The name of the executable; "" when it ends.
+            limit: Its limit of time in seconds; 0 for none.
+        """
 
     def log_line(self, line: str) -> None:
-        """A line of the log, with its end."""
+        """A line of the log, with its end, as it comes."""
 
     def process_ended(self, spent: float) -> None:
-        """A process has ended, after so many seconds."""
+        """A process has ended, after so many seconds of the wall."""
 
 
 class SolverRun:
@@ -73,6 +80,11 @@ class SolverRun:
         executable: str,
         observer: RunObserver | None = None,
     ) -> None:
+        """Of a program, and how it is asked; nothing is written or started yet.
+
+        Args:
+            observer: None: nobody is told.
+        """
         self.program = program
         self.written = program if settings.relax else program.with_rounded_bounds()
         self.settings = settings
@@ -89,21 +101,33 @@ class SolverRun:
         return not self.program.integer_count or self.settings.relax
 
     def path(self, name: str) -> str:
+        """The absolute path of a file of this name in the folder."""
         return os.path.join(self.folder, name)
 
     def write(self, name: str, data: bytes) -> str:
+        """Writes a file of this name into the folder, and returns its absolute path."""
         return write_new(self.path(name), data)
 
     def remove_answers(self) -> None:
-        """Files of an older answer, which a kept folder may hold."""
+        """Removes files of an older answer, which a kept folder may hold; called before a
+        question.
+        """
         for name in os.listdir(self.folder):
             if name.startswith(ANSWER_PREFIX):
                 os.unlink(self.path(name))
 
     def start(self, argv: Sequence[str]) -> Finished:
-        """Runs the solver to its end, in the folder, where its paths become plain names.
+        """Runs the solver to its end, in the folder, and tells the observer of it.
 
-        Its log is kept beside its files. A tenth and five seconds after the time limit it is killed.
+        Its log is kept beside its files. A tenth and five seconds after the time limit it is
+        killed. Sets `log`, `exit_status` and `is_interrupted`.
+
+        Args:
+            argv: The executable and its words; paths in the folder become plain names.
+
+        Raises:
+            OSError: It cannot be started.
+            Interrupted: A signal other than the first interrupt came.
         """
         inside = self.folder + os.sep
         argv = [word[len(inside) :] if word.startswith(inside) else word for word in argv]
@@ -116,7 +140,10 @@ class SolverRun:
         return finished
 
     def run_process(self, argv: Sequence[str]) -> Finished:
-        """Tests put stored runs in the place of this."""
+        """Runs words in the folder, with the log in LOG_NAME. Tests put stored runs in its place.
+
+        The first interrupt of this process is sent to the solver, which may end with an answer.
+        """
         limit = self.settings.time_limit
         deadline = Deadline(limit * KILLED_AFTER + GRACE_SECONDS if limit else math.inf)
         self.observer.stage_begins(os.path.basename(self.executable), limit)
@@ -135,5 +162,5 @@ class SolverRun:
         return Finished(ended.status, ended.output.decode("utf-8", "replace"), ended.is_late)
 
     def _note_interrupt(self) -> None:
-        """The solver was told to end; what it answers then is the answer."""
+        """Notes that the solver was told to end; what it answers then is the answer."""
         self.is_interrupted = True

@@ -1,4 +1,4 @@
-"""What is asked of a solver, as values."""
+"""What is asked of a solver, as values: made of a command's options by `pipeline.option_values`."""
 
 from __future__ import annotations
 
@@ -20,7 +20,8 @@ class SolverSettings:
     """What is asked of a solver.
 
     Attributes:
-        time_limit: Seconds for one run of it; 0 for no limit.
+        time_limit: Seconds for one run of it; 0 for no limit. The solver is told of it, and killed
+            a little later, by the clock.
         relax: Integer variables are taken as continuous ones.
         mip_gap: The relative gap at which its search stops; 0 for none.
         threads: Of its search; 0 leaves the number to the solver.

@@ -1,1 +1,4 @@
-"""Files, processes, words and errors: what every other package stands on. Nothing here knows models."""
+"""Files, processes, words and errors: what every other package stands on.
+
+Nothing here knows models.
+"""

@@ -1,4 +1,7 @@
-"""The two numbers by which a command tells other programs how it ended."""
+"""The two numbers by which a command tells other programs how it ended.
+
+`pipeline.outcome` decides AMPL's code; each class of `system.errors` has its exit status.
+"""
 
 from __future__ import annotations
 

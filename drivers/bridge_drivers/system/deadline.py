@@ -1,4 +1,4 @@
-"""The time that some work has."""
+"""The time that some work has: seconds of the wall, or of the processor."""
 
 from __future__ import annotations
 
@@ -11,16 +11,19 @@ from .errors import DeadlineExceeded
 class Deadline:
     """The moment at which some work has to end. One goes through a whole run.
 
-    Args:
-        limit: Seconds that the work has; infinite where it has no end.
-
     Attributes:
-        seconds: How long the work has; infinite where it has no end.
-        of_processor: They are seconds of this process's processor time, so that a busy machine
-            does not end a short piece of work early.
+        seconds: How long the work has from its start on; infinite where it has no end.
+        of_processor: They are seconds of this process's processor time, so that a busy machine does
+            not end a short piece of work early.
     """
 
     def __init__(self, limit: float = math.inf, *, of_processor: bool = False) -> None:
+        """The time counts from now on.
+
+        Args:
+            limit: Seconds that the work has; infinite where it has no end, and over at once at 0.
+            of_processor: They are seconds of the processor, not of the wall.
+        """
         self.seconds = limit
         self.of_processor = of_processor
         self._clock = time.process_time if of_processor else time.monotonic
@@ -28,7 +31,7 @@ class Deadline:
 
     @classmethod
     def of_limit(cls, limit: float) -> Deadline:
-        """The deadline of an option in seconds, in which 0 stands for no limit."""
+        """The deadline of an option in seconds of the wall, in which 0 stands for no limit."""
         return cls(limit or math.inf)
 
     def spent(self) -> float:
@@ -55,9 +58,12 @@ class Deadline:
             raise DeadlineExceeded(f"time ({doing})" if doing else "time")
 
     def restart(self) -> None:
-        """The seconds count from now on."""
+        """Counts the seconds from now on, as if the work began only now."""
         self._start = self._clock()
 
     def within(self, limit: float) -> Deadline:
-        """One that ends with this one, and at most so many seconds from now."""
+        """A deadline of the same clock that ends with this one, at most `limit` seconds from now.
+
+        What restarts this one later does not change it.
+        """
         return Deadline(min(limit, self.left()), of_processor=self.of_processor)

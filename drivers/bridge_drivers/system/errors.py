@@ -1,9 +1,10 @@
 """The one hierarchy of exceptions: why a run has no answer.
 
-Each class carries the values that it is about and makes its text of them, so that a caller can
-tell errors apart without reading sentences. Each knows the exit status of a command that ends by
-it; AMPL's code of each is decided by `pipeline.outcome.code_of_error`. Two more end a command whatever it is at, and no
-`except Exception` stops them: `Interrupted` and `BrokenOutput`.
+Each class carries the values that it is about and makes its text of them, so that a caller can tell
+errors apart without reading sentences. Each knows the exit status of a command that ends by it;
+AMPL's code of each is decided by `pipeline.outcome.code_of_error`. Three more are not of it.
+`Interrupted` and `BrokenOutput` end a command whatever it is at, and no `except Exception` stops
+them; `SolveInterrupted` is a KeyboardInterrupt with what is known.
 """
 
 from __future__ import annotations
@@ -30,6 +31,7 @@ class BridgeError(Exception):
 
     def __init__(self, reason: str) -> None:
         # `args` stay the values of the class at hand, by which a copy of it is made in another process
+        """Sets `reason`, and leaves `args` to Python: those of the class at hand."""
         self.reason = reason
 
     @property
@@ -39,14 +41,15 @@ class BridgeError(Exception):
 
     @property
     def text(self) -> str:
-        """What it says, in one line."""
+        """What it says of its values, with blanks for ends of lines."""
         return " ".join(self.describe().split("\n"))
 
     def describe(self) -> str:
-        """What it says, made of its values."""
+        """What it says, made of its values; it may have ends of lines. Some classes override it."""
         return self.reason
 
     def __str__(self) -> str:
+        """The text; of an error that left a call of the package that of its report."""
         return self.text if self.report is None else str(self.report.text)
 
 
@@ -57,7 +60,7 @@ class ModelRefused(BridgeError):
 
 
 class Damaged(ModelRefused):
-    """A packed or binary file that cannot be read."""
+    """A packed or binary file, at `path`, that cannot be read."""
 
     def __init__(self, path: str, reason: str) -> None:
         super().__init__(reason)
@@ -101,7 +104,7 @@ class WrongOption(BridgeError):
 
 
 class WrongWords(WrongOption):
-    """Words that no command takes; `meant` asks what was probably meant, where something was."""
+    """Words that no command takes; `meant` is ` did you mean ..?`, or ""."""
 
     def __init__(self, reason: str, meant: str = "") -> None:
         super().__init__(reason)
@@ -112,7 +115,7 @@ class WrongWords(WrongOption):
 
 
 class FileAction(enum.Enum):
-    """What was tried with a file."""
+    """What was tried with a file; its value is the exit status of a command that fails so."""
 
     READ = ExitStatus.UNREAD
     WRITE = ExitStatus.UNWRITTEN
@@ -122,6 +125,13 @@ class FileFault(BridgeError):
     """A file cannot be read or written; `path` is empty where the reason names it."""
 
     def __init__(self, path: str, reason: str, action: FileAction) -> None:
+        """Of what was tried with a file, which sets `status`.
+
+        Args:
+            path: "" where the reason names it.
+            reason: Why it failed.
+            action: Reading or writing.
+        """
         super().__init__(reason)
         self.path = path
         self.action = action
@@ -132,7 +142,13 @@ class FileFault(BridgeError):
 
     @staticmethod
     def of(fault: OSError, path: str, action: FileAction) -> FileFault:
-        """A fault of the system; `path` is told where it has no file of its own."""
+        """The error that tells of a fault of the system.
+
+        Args:
+            fault: Whose own file is told where it has one.
+            path: Is told where it has none.
+            action: Reading or writing.
+        """
         return FileFault(str(fault.filename or path), fault.strerror or str(fault), action)
 
 
@@ -160,7 +176,13 @@ class NotInstalled(BridgeError):
 
 
 class NotFound(NotInstalled):
-    """A program was found nowhere; `remedy` says what helps."""
+    """A program was found nowhere.
+
+    Attributes:
+        program: Its name.
+        remedy: What helps, in words behind a colon.
+        other: A program of the same name on the PATH that is another one; "" where there is none.
+    """
 
     def __init__(self, program: str, remedy: str, other: str = "") -> None:
         super().__init__("was not found")
@@ -174,7 +196,12 @@ class NotFound(NotInstalled):
 
 
 class NotStarted(NotInstalled):
-    """A program that is there cannot be run; `tried` says what was tried."""
+    """A program that is there cannot be run.
+
+    Attributes:
+        program: Its path or name.
+        tried: What was tried, as a participle: `run`.
+    """
 
     def __init__(self, program: str, reason: str, tried: str = "run") -> None:
         super().__init__(reason)
@@ -186,7 +213,11 @@ class NotStarted(NotInstalled):
 
 
 class SolverFailed(BridgeError):
-    """The solver ended without an answer that can be used."""
+    """The solver ended without an answer that can be used.
+
+    Attributes:
+        solver: Its title, as messages tell it.
+    """
 
     def __init__(self, solver: str, reason: str) -> None:
         super().__init__(reason)
@@ -197,11 +228,18 @@ class SolverFailed(BridgeError):
 
 
 class UnclearAnswer(BridgeError):
-    """What a solver wrote is no answer, or is not understood; `UnusableAnswer` says so of a run."""
+    """What a solver wrote is no answer, or is not understood.
+
+    A class of `solvers` raises it; the run makes an `UnusableAnswer` of it, or asks once more.
+    """
 
 
 class UnusableAnswer(SolverFailed):
-    """The solver's answer is missing or makes no sense; `ended_by` names the signal that ended it."""
+    """The solver's answer is missing or makes no sense.
+
+    Attributes:
+        ended_by: The name of the signal that ended it, such as SIGSEGV; "" where none did.
+    """
 
     def __init__(self, solver: str, reason: str, ended_by: str = "") -> None:
         super().__init__(solver, reason)
@@ -213,25 +251,32 @@ class UnusableAnswer(SolverFailed):
 
 
 class ProgramFailed(BridgeError):
-    """The proved program ended without its answer; of one that refuses a text there is more to say."""
+    """The proved program ended without its answer, or did what it should not do.
+
+    Of one that refuses a text `program.refusal` has more to say.
+    """
 
 
 class NotReturned(BridgeError):
-    """The proved program does not take the solver's answer back."""
+    """`bridge return` does not take the solver's answer, so that there is no .sol of it."""
 
     def describe(self) -> str:
         return f"return: {self.reason}"
 
 
 class DriverFault(BridgeError):
-    """A fault of the drivers themselves."""
+    """A fault of the drivers themselves: an exception of no other class, told by its `repr`."""
 
     def describe(self) -> str:
         return f"a fault of the driver: {self.reason} (outlev=2 shows where)"
 
 
 class RunInterrupted(BridgeError):
-    """A signal ended the run."""
+    """A signal ended a call of the package: what it raises and reports in place of `Interrupted`.
+
+    Attributes:
+        number: Of the signal; `status` is 128 more.
+    """
 
     def __init__(self, number: int) -> None:
         super().__init__("interrupted")
@@ -240,11 +285,11 @@ class RunInterrupted(BridgeError):
 
 
 class NotDecimal(BridgeError):
-    """A value or a text that no decimal stands for: infinite, not a number, or too long."""
+    """A value or a text that no decimal stands for: infinite, no number, or too long."""
 
 
 class UnsupportedModel(BridgeError):
-    """A program that the search does not take."""
+    """A program that the search does not take; the reason says what it has."""
 
 
 class SearchEnded(BridgeError):
@@ -256,18 +301,25 @@ class SearchPaused(SearchEnded):
 
 
 class DeadlineExceeded(SearchPaused):
-    """The time of a search or of a call is over."""
+    """The time of a `Deadline` is over."""
 
 
 class TimeOver(BridgeError):
-    """The time of a certificate is over: what is known by then is told."""
+    """The time of exact work is over, at whatever it was; `exact.work_limit` raises it.
+
+    What a certificate has shown by then is told.
+    """
 
     def __init__(self) -> None:
         super().__init__("time")
 
 
 class NodeLimit(SearchPaused):
-    """A search has visited as many nodes as it may."""
+    """A search has visited as many nodes as it may.
+
+    Attributes:
+        nodes: How many that were.
+    """
 
     def __init__(self, nodes: int) -> None:
         super().__init__(f"more than {nodes} nodes")
@@ -275,7 +327,7 @@ class NodeLimit(SearchPaused):
 
 
 class NotSolved(BridgeError):
-    """An exact system, or the optimum of a basis, is not found; the reason says why."""
+    """An exact system, or the exact optimum of a basis, is not found; the reason says why."""
 
 
 class TooManyBits(BridgeError):
@@ -290,8 +342,8 @@ class SolveInterrupted(KeyboardInterrupt):
     """Ctrl-C ended a call of the package.
 
     Attributes:
-        report: The best answer that was found until then, which was kept where files are named; or that
-            there is none.
+        report: The best answer that was found until then, which was kept where files are named; or
+            that there is none.
     """
 
     def __init__(self, report: Any) -> None:
@@ -300,7 +352,11 @@ class SolveInterrupted(KeyboardInterrupt):
 
 
 class Interrupted(BaseException):
-    """A signal ended the run."""
+    """A signal ended the run: raised by `system.signals` wherever the run is.
+
+    Attributes:
+        number: Of the signal.
+    """
 
     def __init__(self, number: int) -> None:
         super().__init__(number)
@@ -319,5 +375,6 @@ class BrokenOutput(BaseException):
     """
 
     def __init__(self, fault: OSError) -> None:
+        """Of the fault of the system that writing or flushing raised, whose text is the error's."""
         super().__init__(fault.strerror or str(fault))
         self.is_closed = fault.errno == errno.EPIPE

@@ -3,10 +3,10 @@
 No other module opens a file for writing. There are two kinds of files:
 
 - An **output** is what the user asked for, at a place of the user's. `OutputFiles` writes it: under
-  another name beside its place, with its final permissions before its first byte, and then renamed.
-  What stands there is replaced only by the rules of `OutputFiles`.
+another name beside its place, with its final permissions before its first byte, and then renamed.
+What stands there is replaced only by the rules of `OutputFiles`.
 - A file of **this run's own** stands in a private folder. `write_new` and the functions beside it
-  write it in its place.
+write it in its place.
 """
 
 from __future__ import annotations
@@ -50,10 +50,10 @@ class OutputFiles:
     - What the run reads is never replaced, by whatever path.
     - A model is replaced only by a model of the same kind.
     - What else stands there is replaced with `overwrite` alone, unless nothing is lost: it is
-      empty, or has the same bytes already.
+    empty, or has the same bytes already.
     - Nothing is written through a symbolic link that leads nowhere.
 
-    Args:
+    Attributes:
         reads: The paths of what the run reads.
         model_kind: The kind of a model by its first bytes; None where they are of no model.
         overwrite: What stands at a place may be replaced.
@@ -62,12 +62,13 @@ class OutputFiles:
     def __init__(
         self, reads: Sequence[str], model_kind: KindOfStart, *, overwrite: bool = False
     ) -> None:
+        """Nothing is looked at yet; the arguments are the attributes of the class."""
         self.reads = reads
         self.model_kind = model_kind
         self.overwrite = overwrite
 
     def check(self, target: str, data: bytes) -> None:
-        """Whether these bytes may stand there.
+        """Raises where these bytes may not stand at a path, before any of a run's files is written.
 
         Raises:
             FileStays: What stands there stays.
@@ -80,7 +81,7 @@ class OutputFiles:
         """Writes a file whole or not at all; what is no plain file is added to.
 
         Raises:
-            FileStays: What stands there stays.
+            FileStays: What stands there stays, or came to stand there just now.
             FileFault: It cannot be written.
         """
         self.check(target, data)
@@ -92,7 +93,7 @@ class OutputFiles:
                 _write_whole(target, data, may_replace=os.path.exists(target))
 
     def remove(self, target: str) -> None:
-        """Removes an older output, where there is one.
+        """Removes an older output, such as a .sol of an earlier run, where there is one.
 
         Raises:
             FileStays: It is what this run reads, or a model.
@@ -106,12 +107,13 @@ class OutputFiles:
             os.unlink(target)
 
     def _is_read(self, target: str) -> bool:
+        """Whether a path leads to a file that this run reads."""
         return os.path.exists(target) and any(
             os.path.exists(path) and os.path.samefile(path, target) for path in self.reads
         )
 
     def _why_it_stays(self, target: str, data: bytes) -> WhyItStays | None:
-        """None where the bytes may be written."""
+        """Why these bytes may not stand at a path; None where they may."""
         if self._is_read(target):
             return WhyItStays.IS_READ
         if os.path.islink(target) and not os.path.exists(target):
@@ -126,7 +128,7 @@ class OutputFiles:
 
 
 def start_of(path: str) -> bytes:
-    """The first bytes of a file; none where it cannot be read."""
+    """The first LOOKED_AT bytes of a file; none where it cannot be read."""
     try:
         with open(path, "rb") as file:
             return file.read(LOOKED_AT)
@@ -135,9 +137,10 @@ def start_of(path: str) -> bytes:
 
 
 def is_stream(path: str) -> bool:
-    """Whether what stands there is added to: a device, a pipe, or a file that this process has open.
+    """Whether what stands there is added to: a device, a pipe, or an open file of this process.
 
-    `/dev/stdout` and its kin are streams also where they lead to a plain file.
+    `/dev/stdout` and its kin are streams also where they lead to a plain file. Where nothing stands
+    there is no stream.
     """
     return os.path.exists(path) and (
         not os.path.isfile(path) or OPEN_FILE.fullmatch(os.path.abspath(path)) is not None
@@ -145,10 +148,13 @@ def is_stream(path: str) -> bool:
 
 
 def open_to_append(path: str) -> BinaryIO:
-    """Opens a stream behind what it has.
+    """Opens a stream (`is_stream`) for writing behind what it has; the caller closes it.
 
     Where this process has it open, its own place in it goes on: what was printed before stands
     before, and what is printed later behind.
+
+    Raises:
+        OSError: It cannot be opened.
     """
     found = OPEN_FILE.fullmatch(os.path.abspath(path))
     if found is None:
@@ -159,20 +165,28 @@ def open_to_append(path: str) -> BinaryIO:
 
 
 def _open_without_terminal(path: str, flags: int) -> int:
-    """A terminal that is written to does not become this process's own."""
+    """For `open`: a terminal that is written to does not become this process's own."""
     return os.open(path, flags | getattr(os, "O_NOCTTY", 0), MODE_OF_NEW_FILES)
 
 
 def private_folder(prefix: str) -> str:
-    """Makes a folder that only this user can look into; whoever calls removes it."""
+    """Makes a folder that only this user can look into; its path. Whoever calls removes it.
+
+    Args:
+        prefix: What its name begins with.
+    """
     return tempfile.mkdtemp(prefix=prefix)
 
 
 def new_folder_in(folder: str, name: str) -> str:
     """A folder that a run has to itself: this one where nothing is in it, else a new one below.
 
+    Args:
+        folder: Is made where it is missing.
+        name: Of a new one, behind which stand a hyphen and the first number from 1 that is free.
+
     Raises:
-        FileFault: It cannot be made.
+        FileFault: It cannot be made, or looked into.
     """
     with _as_file_fault(folder):
         os.makedirs(folder, exist_ok=True)
@@ -187,7 +201,15 @@ def new_folder_in(folder: str, name: str) -> str:
 
 
 def write_new(path: str, data: BinaryIO | bytes) -> str:
-    """Writes a file of this run's own; its path. An OSError names it."""
+    """Writes a file of this run's own, over what stands there, and returns its path.
+
+    Args:
+        path: In a folder of this run's own.
+        data: The bytes, or a stream that is copied from its place to its end.
+
+    Raises:
+        OSError: It cannot be written; it names the file.
+    """
     with new_file(path) as out:
         if isinstance(data, bytes):
             out.write(data)
@@ -198,29 +220,46 @@ def write_new(path: str, data: BinaryIO | bytes) -> str:
 
 @contextlib.contextmanager
 def new_file(path: str, *, append: bool = False) -> Iterator[BinaryIO]:
-    """A file of this run's own, from its start or behind what it has. An OSError names it."""
+    """A file of this run's own to be written, closed behind the block.
+
+    Args:
+        path: In a folder of this run's own; what stands there is lost, unless it is appended to.
+        append: Writes behind what the file has.
+
+    Raises:
+        OSError: It cannot be written; it names the file. Those of the block are told so, too.
+    """
     with _named_fault(path), open(path, "ab" if append else "wb") as out:
         yield out
 
 
 @contextlib.contextmanager
 def new_text(path: str) -> Iterator[TextIO]:
-    """A file of this run's own that holds ASCII. An OSError names it."""
+    """A file of this run's own that holds ASCII, as `new_file` makes it from its start."""
     with _named_fault(path), open(path, "w", encoding="ascii") as out:
         yield out
 
 
 def _holds(target: str, data: bytes) -> bool:
-    """Whether nothing is lost where these bytes replace a file: it is empty, or has them already."""
+    """Whether nothing is lost where these bytes replace a file: it is empty, or has the same."""
     size = os.path.getsize(target)
     return size == 0 or size == len(data) and Path(target).read_bytes() == data
 
 
 def _write_whole(target: str, data: bytes, *, may_replace: bool) -> None:
-    """A file stands at its place at once or not at all. One that nobody may write stays.
+    """Puts a file at its place at once or not at all, its bytes on the disk; signals wait.
 
-    A link stays a link: what it leads to is replaced. Where nothing stood there when the run
-    looked, what came since is not replaced.
+    A link stays a link: what it leads to is replaced. A file that nobody may write stays.
+
+    Args:
+        target: The path of an output.
+        data: The whole file.
+        may_replace: Something stood there when the run looked, and may be replaced, which keeps its
+            mode. Else what came since is not replaced.
+
+    Raises:
+        FileExistsError: Something came to stand there.
+        OSError: It cannot be written; it names the target.
     """
     if os.path.isdir(target):
         raise IsADirectoryError(errno.EISDIR, os.strerror(errno.EISDIR), target)
@@ -250,9 +289,10 @@ def _write_whole(target: str, data: bytes, *, may_replace: bool) -> None:
 
 
 def _new_part_file(place: str, mode: int | None) -> BinaryIO:
-    """A new file beside a place, which was not there, with the mode that it will have.
+    """Opens a new file `PLACE.NUMBER.part`, which was not there, with the mode that it will have.
 
     Args:
+        place: The path beside which it stands, so that it can be renamed to it.
         mode: Of what it will replace; None where it replaces nothing.
     """
     bits = MODE_OF_NEW_FILES if mode is None else mode & MODE_OF_NEW_FILES
@@ -270,9 +310,13 @@ def _new_part_file(place: str, mode: int | None) -> BinaryIO:
 
 
 def _put_where_nothing_stands(part: str, place: str) -> None:
-    """Gives a file its name, unless another file has got it in the meantime.
+    """Gives the file `part` the name `place`, unless another file has got it in the meantime.
 
-    A hard link does both at once; where the file system has none it is looked for first.
+    A hard link does both at once, and the old name is left to the caller; where the file system has
+    no links it is looked for first, and renamed.
+
+    Raises:
+        FileExistsError: Something stands there.
     """
     try:
         os.link(part, place)
@@ -286,7 +330,7 @@ def _put_where_nothing_stands(part: str, place: str) -> None:
 
 @contextlib.contextmanager
 def _named_fault(path: str) -> Iterator[None]:
-    """A fault of writing, such as a full disk, has no file of its own: it gets this one."""
+    """A block whose OSErrors without a file of their own, such as of a full disk, get this one."""
     try:
         yield
     except OSError as fault:
@@ -297,6 +341,12 @@ def _named_fault(path: str) -> Iterator[None]:
 
 @contextlib.contextmanager
 def _as_file_fault(path: str) -> Iterator[None]:
+    """A block of writing at a path, whose OSErrors become errors of the hierarchy.
+
+    Raises:
+        FileStays: Something stands there.
+        FileFault: All other OSErrors.
+    """
     try:
         yield
     except FileExistsError as fault:

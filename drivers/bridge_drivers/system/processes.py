@@ -83,15 +83,21 @@ def run(
 ) -> Finished:
     """Runs a program to its end, or to that of its time. It reads nothing from standard input.
 
+    When this returns or raises, the program and all that it started in its group has ended.
+
     Args:
-        on_line: Is told each line of the output, with its end, as it comes.
+        argv: The program and its words.
+        deadline: When it is over, the program is killed at once.
+        limits: Of what is held of its output; the rest is read and dropped.
+        on_line: Is told each line of the output, with its end, as it comes; a long one in pieces.
         folder: Where it runs.
+        streams: Where it writes to; of PASSED_ON nothing is held, and no line is told.
         log: The path of a file that gets the output as it comes.
-        on_interrupt: Where it is given, the first interrupt of this process is sent to the
-            program, which may end in its own way, and told here.
+        on_interrupt: Where it is given, the first interrupt of this process is sent to the program,
+            which may end in its own way, and told here.
 
     Raises:
-        OSError: It cannot be started.
+        OSError: It cannot be started, or the log not be written.
         Interrupted: A signal came, and the program was killed.
     """
     memory = _Memory(limits.memory_bytes)
@@ -112,14 +118,21 @@ def run(
 
 
 def signal_group(child: subprocess.Popen[bytes], number: int) -> None:
-    """Sends a signal to a process that was not waited for, and to all that it started."""
+    """Sends a signal to a process that was not waited for, and to all that it started in its group.
+
+    One that has ended already is left out.
+    """
     with contextlib.suppress(ProcessLookupError, PermissionError):
         os.killpg(child.pid, number)
 
 
 @contextlib.contextmanager
 def _open_log(path: Optional[str], limits: OutputLimits) -> Iterator[List[Sink]]:
-    """What writes a log, in a block; nothing where none is wanted."""
+    """A block in which a log is written: its one sink in a list, empty where there is no path.
+
+    Args:
+        path: Of the file, which is written from its start; None for no log.
+    """
     if path is None:
         yield []
         return
@@ -128,13 +141,26 @@ def _open_log(path: Optional[str], limits: OutputLimits) -> Iterator[List[Sink]]
 
 
 def _readers_of(stream: Optional[IO[bytes]], sinks: Sequence[Sink]) -> List[_Reader]:
-    """What reads a stream; nothing where it is not this process that reads it."""
+    """A list of what reads a stream; empty where the process writes to a stream of this process.
+
+    Args:
+        stream: The end that this process reads; None where there is none.
+        sinks: Are given each piece that is read.
+    """
     return [] if stream is None else [_Reader(stream, sinks)]
 
 
 def _started(
     argv: Sequence[str], streams: Streams, folder: Optional[str]
 ) -> subprocess.Popen[bytes]:
+    """Starts a program in a session, and so a group, of its own, with nothing on standard input.
+
+    Args:
+        folder: Where it runs; None: where this process does.
+
+    Raises:
+        OSError: It cannot be started.
+    """
     output = None if streams is Streams.PASSED_ON else subprocess.PIPE
     return subprocess.Popen(
         argv,
@@ -148,7 +174,11 @@ def _started(
 
 @contextlib.contextmanager
 def _ended_at_last(child: subprocess.Popen[bytes]) -> Iterator[None]:
-    """A block in which a process goes on. At its end the process, and what it started, has ended."""
+    """A block in which a process goes on, with a guard beside it.
+
+    At its end the process and what it started in its group are killed, the process is waited for,
+    and its streams are closed.
+    """
     guard = _guard_of(child)
     try:
         yield
@@ -164,9 +194,10 @@ def _ended_at_last(child: subprocess.Popen[bytes]) -> Iterator[None]:
 
 
 def _guard_of(child: subprocess.Popen[bytes]) -> Optional[subprocess.Popen[bytes]]:
-    """A small process that kills the group of another one where this process ends without a word.
+    """Starts a small process that kills the group of `child` where this process ends wordlessly.
 
-    It waits at a pipe that this process alone holds open. None where there is no shell.
+    It waits at a pipe that this process alone holds open: a line there says that all is well, its
+    end that this process has gone. None where there is no shell.
     """
     try:
         return subprocess.Popen(
@@ -184,7 +215,11 @@ def _guard_of(child: subprocess.Popen[bytes]) -> Optional[subprocess.Popen[bytes
 def _interrupts_to(
     child: subprocess.Popen[bytes], on_interrupt: Optional[Callable[[], None]]
 ) -> Iterator[None]:
-    """A block whose first interrupt is the child's, where somebody wants to be told of it."""
+    """A block whose first interrupt is told, and sent to the child's group, where somebody is told.
+
+    Args:
+        on_interrupt: None: interrupts are as outside of the block.
+    """
     if on_interrupt is None:
         yield
         return
@@ -199,9 +234,10 @@ def _interrupts_to(
 
 
 def _follow(child: subprocess.Popen[bytes], readers: Sequence[_Reader], deadline: Deadline) -> bool:
-    """Reads what a process writes until it has ended; whether it was killed since its time was over.
+    """Reads what a process writes until it has ended; True if it was killed at the deadline.
 
-    Something that it started may hold its streams open: they are not waited for.
+    Something that it started may hold its streams open: what these have by then is read, and no
+    more waited for.
     """
     is_late = False
     with selectors.DefaultSelector() as selector, _notice_of_end(child) as notice:
@@ -221,7 +257,13 @@ def _follow(child: subprocess.Popen[bytes], readers: Sequence[_Reader], deadline
 
 
 def _read_what_is_there(selector: selectors.BaseSelector, pause: float) -> None:
-    """Reads each stream that has something, waiting so many seconds for one that has."""
+    """Waits for a stream that has something, and reads a piece of each that has.
+
+    One that has ended is not looked at any more.
+
+    Args:
+        pause: Seconds to wait at most; infinite for no limit.
+    """
     for key, _ in selector.select(None if pause == math.inf else pause):
         if key.data is not None and key.data.read() == 0:
             selector.unregister(key.fileobj)
@@ -229,7 +271,12 @@ def _read_what_is_there(selector: selectors.BaseSelector, pause: float) -> None:
 
 @contextlib.contextmanager
 def _notice_of_end(child: subprocess.Popen[bytes]) -> Iterator[Optional[int]]:
-    """A file that can be read once a process has ended; None where the system has no such."""
+    """A block with a file (a pidfd) that can be read once a process has ended.
+
+    Yields:
+        Its number; None where the system has no such, and the process is looked at every POLL
+            seconds.
+    """
     try:
         notice = os.pidfd_open(child.pid)
     except (AttributeError, OSError):
@@ -250,7 +297,12 @@ def _has_ended(child: subprocess.Popen[bytes]) -> bool:
 
 
 class _Reader:
-    """Reads one stream of a process, without waiting, and gives each piece to its sinks."""
+    """Reads one stream of a process, without waiting, and gives each piece to its sinks.
+
+    Attributes:
+        number: Of the stream's file, by which a selector knows it.
+        sinks: Functions that take each piece as it comes, and b"" at the end.
+    """
 
     def __init__(self, stream: IO[bytes], sinks: Sequence[Sink]) -> None:
         self.number = stream.fileno()
@@ -259,7 +311,11 @@ class _Reader:
         os.set_blocking(self.number, waits)
 
     def read(self) -> Optional[int]:
-        """How many bytes came: 0 at the end, None where nothing is there now."""
+        """Reads a piece of at most PIECE bytes and gives it to the sinks.
+
+        Returns:
+            How many bytes came: 0 at the end, None where nothing is there now.
+        """
         try:
             data = os.read(self.number, PIECE)
         except BlockingIOError:
@@ -269,14 +325,22 @@ class _Reader:
         return len(data)
 
     def drain(self) -> None:
-        """Reads what is there when the process has ended."""
+        """Reads what is still there when the process has ended, at most DRAINED bytes."""
         for _ in range(DRAINED // PIECE):
             if not self.read():
                 return
 
 
 class _Memory:
-    """What is held of a stream in memory: of a long one its first and its last half."""
+    """What is held of a stream in memory: of a long one its first and its last half.
+
+    Attributes:
+        most_of_half: Bytes of each half; the last one may have a piece more.
+        first: The first bytes, up to `most_of_half`.
+        last: The pieces behind them that are held.
+        size_of_last: Their bytes.
+        dropped: How many bytes between both are gone.
+    """
 
     def __init__(self, most: int) -> None:
         self.most_of_half = most // 2
@@ -286,6 +350,9 @@ class _Memory:
         self.dropped = 0  # bytes between both
 
     def add(self, data: bytes) -> None:
+        """Holds a piece of the stream; the oldest pieces of a last half that is too long are
+        dropped.
+        """
         room = self.most_of_half - len(self.first)
         self.first += data[:room]
         rest = data[room:]
@@ -299,12 +366,19 @@ class _Memory:
             self.dropped += len(gone)
 
     def data(self) -> bytes:
+        """What is held, with a line in brackets where bytes are left out."""
         gap = b"\n[%d bytes are left out]\n" % self.dropped if self.dropped else b""
         return b"".join([self.first, gap, *self.last])
 
 
 class _Lines:
-    """Tells whole lines of a stream, and long ones in pieces."""
+    """Tells whole lines of a stream, in UTF-8, and long ones in pieces.
+
+    Attributes:
+        on_line: Is told each of them with its end; None: nothing is told.
+        most: Bytes of a line from which on it is told before its end has come.
+        rest: The line that has no end yet.
+    """
 
     def __init__(self, on_line: Optional[Callable[[str], None]], most: int) -> None:
         self.on_line = on_line
@@ -312,6 +386,7 @@ class _Lines:
         self.rest = b""
 
     def add(self, data: bytes) -> None:
+        """Takes a piece of the stream, and tells the lines that end in it."""
         if self.on_line is None:
             return
         *lines, self.rest = (self.rest + data).split(b"\n")
@@ -321,25 +396,32 @@ class _Lines:
             self.end()
 
     def end(self) -> None:
-        """Tells the rest, which has no end."""
+        """Tells the rest of the stream, or of a long line, which has no end yet."""
         rest = self.rest
         self.rest = b""
         if rest:
             self._tell(rest)
 
     def _tell(self, line: bytes) -> None:
+        """Tells a line, or a piece of one, whose faulty bytes become the replacement character."""
         if self.on_line is not None:
             self.on_line(line.decode("utf-8", "replace"))
 
 
 class _Log:
-    """A file that gets a stream as it comes, up to a limit."""
+    """A file that gets a stream as it comes, up to a limit.
+
+    Attributes:
+        file: Open for writing.
+        room: How many bytes more it takes.
+    """
 
     def __init__(self, file: BinaryIO, most: int) -> None:
         self.file = file
         self.room = most
 
     def add(self, data: bytes) -> None:
+        """Writes a piece of the stream, as far as there is room."""
         piece = data[: self.room]
         self.room -= len(piece)
         self.file.write(piece)

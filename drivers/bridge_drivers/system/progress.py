@@ -1,4 +1,7 @@
-"""What a run is at, as values: whoever works says it, whoever shows it reads it."""
+"""What a run is at, as values: whoever works says it, whoever shows it reads it.
+
+`pipeline.monitor` keeps one for a run; `commands.console` shows it in the last line of a terminal.
+"""
 
 from __future__ import annotations
 
@@ -27,22 +30,27 @@ class Progress:
         self.began = time.monotonic()
 
     def begin(self, stage: str, limit: float = 0.0) -> None:
-        """A stage begins; "" ends the one that was."""
+        """Begins a stage, whose time counts from now on; what was known of the last one is gone.
+
+        Args:
+            stage: What is worked at, in words; "" between two stages.
+            limit: Seconds of the wall that it has; 0 for no limit.
+        """
         self.stage = stage
         self.limit = limit
         self.detail = ""
         self.began = time.monotonic()
 
     def tell(self, detail: str) -> None:
-        """What is known of the stage from now on."""
+        """Sets what is known of the stage from now on, in words."""
         self.detail = detail
 
     def tell_numbers(self, known: Mapping[str, float]) -> None:
-        """What is known of the stage, by the names that `progress_words` knows."""
+        """Sets what is known of the stage from now on, by the names that `progress_words` knows."""
         self.tell(progress_words(known))
 
     def words(self) -> str:
-        """All of it: `cbc, 3 of 60 s, incumbent 17`."""
+        """The stage, its seconds by now and what is known of it: `cbc, 3 of 60 s, incumbent 17`."""
         seconds = f"{time.monotonic() - self.began:.0f}"
         limit = f" of {self.limit:g} s" if self.limit else " s"
         detail = f", {self.detail}" if self.detail else ""
@@ -50,11 +58,12 @@ class Progress:
 
 
 def progress_words(known: Mapping[str, float]) -> str:
-    """The words of what is known of a search, as far as it is finite.
+    """The words of what is known of a search: values, the gap where it is known, and counts.
 
     Args:
-        known: By the names of `VALUES` and `COUNTS`. A bound by cuts that are still being made is
-            no claim yet, and is not told.
+        known: By the names of `VALUES` and `COUNTS`; values are in the file's own sense. Others,
+            and what is not finite, are left out, and so is a bound beside `cuts`: while cuts are
+            still made it is no claim yet.
     """
     told = {name: value for name, value in known.items() if math.isfinite(value)}
     if "cuts" in told:
@@ -67,6 +76,6 @@ def progress_words(known: Mapping[str, float]) -> str:
 
 
 def gap_percentage(incumbent: float, bound: float) -> float:
-    """How far both are apart, in hundredths of the greater one."""
+    """How far both are apart, in hundredths of the greater of their sizes; 0 of equal ones."""
     apart = abs(incumbent - bound)
     return 100 * apart / max(abs(incumbent), abs(bound)) if apart else 0.0

@@ -1,4 +1,8 @@
-"""Signals end a run by an exception, and wait where a block may not be broken off."""
+"""Signals end a run by an exception, and wait where a block may not be broken off.
+
+`SIGNALS` is the one gate of this process. A command installs it (`commands.console`); calls of the
+package leave the signals of their caller alone, but for SIGINT while they work.
+"""
 
 from __future__ import annotations
 
@@ -36,13 +40,27 @@ class SignalGate:
         self.receiver: Callable[[], None] | None = None
 
     def install(self) -> None:
-        """Takes all handled signals from here on. One that is ignored from the start stays so."""
+        """Makes this gate the handler of all handled signals, at the start of a command.
+
+        A signal that is ignored from the start stays so.
+        """
         for number in HANDLED_SIGNALS:
             if signal.getsignal(number) is not signal.SIG_IGN:
                 signal.signal(number, self.receive)
 
     def receive(self, number: int, frame: object = None) -> None:
-        """The handler of each signal."""
+        """What a signal does: the handler of each one, also called where one was held back.
+
+        It waits in a deferred block; an interrupt goes to a receiver, once; else the first signal
+        ends the run, and later ones do nothing.
+
+        Args:
+            number: Of the signal.
+            frame: What Python gives a handler; not looked at.
+
+        Raises:
+            Interrupted: The run ends.
+        """
         if self.is_deferring:
             self.pending = self.pending or number
         elif number == signal.SIGINT and self.receiver is not None:
@@ -54,15 +72,27 @@ class SignalGate:
             raise Interrupted(number)
 
     def deferred(self) -> contextlib.AbstractContextManager[None]:
-        """A block that no signal breaks off: what comes in it is delivered at its end."""
+        """A block that no signal breaks off: the first one that comes waits for its end.
+
+        Raises:
+            Interrupted: At the end of the block, where a signal ends the run.
+        """
         return self._deferring(is_deferring=True)
 
     def delivered(self) -> contextlib.AbstractContextManager[None]:
-        """A block inside a deferred one in which signals are delivered again."""
+        """A block inside a deferred one in which signals are delivered again, also one that waits.
+
+        Raises:
+            Interrupted: At its start or within it, where a signal ends the run.
+        """
         return self._deferring(is_deferring=False)
 
     @contextlib.contextmanager
     def _deferring(self, *, is_deferring: bool) -> Iterator[None]:
+        """A block with another `is_deferring`, which is set back at its end.
+
+        What waits is delivered at its start and, where it did not raise, at its end.
+        """
         before = self.is_deferring
         self.is_deferring = is_deferring
         self.deliver_pending()
@@ -74,7 +104,11 @@ class SignalGate:
 
     @contextlib.contextmanager
     def first_interrupt_to(self, receiver: Callable[[], None]) -> Iterator[None]:
-        """A block whose first interrupt is the receiver's. The second one ends the run."""
+        """A block whose first SIGINT goes to the receiver, once; the second one ends the run.
+
+        Args:
+            receiver: Called within the signal's handler.
+        """
         self.receiver = receiver
         try:
             yield
@@ -82,7 +116,7 @@ class SignalGate:
             self.receiver = None
 
     def deliver_pending(self) -> None:
-        """Delivers what waited, unless it still has to wait."""
+        """Does what the signal that waits does, unless it still has to wait."""
         if self.pending and not self.is_deferring:
             number = self.pending
             self.pending = 0
@@ -94,10 +128,10 @@ SIGNALS = SignalGate()  # of this process
 
 @contextlib.contextmanager
 def interrupts_to(receiver: Callable[[], None]) -> Iterator[None]:
-    """A block whose interrupts are the receiver's, and end nothing.
+    """A block in which each SIGINT calls the receiver, within the handler, and ends nothing.
 
-    Interrupts that are ignored stay so. In another thread than the main one, which gets no
-    signals, nothing changes.
+    Interrupts that are ignored stay so. In another thread than the main one, which gets no signals,
+    nothing changes. The old handler comes back at its end.
     """
     is_main = threading.current_thread() is threading.main_thread()
     if not is_main or signal.getsignal(signal.SIGINT) is signal.SIG_IGN:

@@ -31,30 +31,31 @@ def one_line(text: str) -> str:
 
 
 def alternatives(words: Sequence[str]) -> str:
-    """`a, b or c`."""
+    """The words as `a, b or c`; "" of none."""
     if len(words) < 2:
         return "".join(words)
     return f"{', '.join(words[:-1])} or {words[-1]}"
 
 
 def first_of(items: Sequence[str], most: int) -> str:
-    """The first items of a list, and how many more there are."""
+    """The first `most` items of a list, and how many more there are: `a, b and 3 more`."""
     more = len(items) - most
     return ", ".join(items[:most]) + (f" and {more} more" if more > 0 else "")
 
 
 def counted(count: int, thing: str) -> str:
-    """`1 row`, `2 rows`, `3 bases`."""
+    """A count with its thing, in the plural where it is not 1: `1 row`, `2 rows`, `3 classes`."""
     if count == 1:
         return f"{count} {thing}"
     return f"{count} {thing}{'es' if thing.endswith('s') else 's'}"
 
 
 def nearest(word: str, known: Iterable[str]) -> str:
-    """The known word that was probably meant; nothing where none is near.
+    """The known word that was probably meant, by difflib's likeness; "" where none is near.
 
     Args:
-        known: Of which only the first `MOST_NAMES` are looked at, and none that is long.
+        word: As the user wrote it; none is near to one of more than LONGEST_WORD characters.
+        known: Of which only the first MOST_NAMES are looked at, and none that is long.
     """
     if len(word) > LONGEST_WORD:
         return ""
@@ -63,9 +64,11 @@ def nearest(word: str, known: Iterable[str]) -> str:
 
 
 def did_you_mean(word: str, known: Iterable[str], other_names: Mapping[str, str] = {}) -> str:
-    """` did you mean `prove`?`, or nothing.
+    """` did you mean `prove`?`, to stand behind a refusal of a word; "" where nothing is near.
 
     Args:
+        word: As the user wrote it.
+        known: The words that are taken here.
         other_names: By what other programs call something, what it is called here; a value may
             stand behind an equals sign.
     """
@@ -80,6 +83,10 @@ def cut_to_width(text: str, columns: int) -> str:
     """As much of a line as a terminal shows in so many columns.
 
     Letters of East Asia are two columns wide, and marks upon a letter have none of their own.
+
+    Args:
+        text: Of one line, without controls.
+        columns: Of the terminal.
     """
     width = 0
     for place, letter in enumerate(text):
@@ -91,4 +98,5 @@ def cut_to_width(text: str, columns: int) -> str:
 
 
 def _escaped(found: re.Match[str]) -> str:
+    r"""A control as `\x1b`; of a byte that is no UTF-8 (a surrogate) the byte's own number."""
     return f"\\x{ord(found.group()) & 0xff:02x}"
