@@ -90,7 +90,9 @@ def exact_optimum(program: IntegerProgram, basis: Basis, x: Sequence[float]) -> 
         numerators[j] = v
     values = RationalVector(numerators, basic.denominator)
     duals = {i: v for i, v in zip(system.rows, row_duals.numerators) if v}
+    check_work()
     _require_feasible(program, values)
+    check_work()
     _require_complementary(program, system, values, duals, row_duals.denominator)
     scale = values.denominator * program.bound_scale
     shared = {v: Fraction(v, scale) for v in set(numerators)}

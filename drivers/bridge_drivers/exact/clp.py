@@ -17,6 +17,7 @@ from typing import Any, Iterable, List, Mapping, NamedTuple, Optional, Sequence,
 from ..model.double_form import DoubleBound, DoubleProgram
 from ..system.deadline import Deadline
 from ..system.errors import NotInstalled
+from .work_limit import check_work
 
 INFINITE = 1.7976931348623157e308  # COIN's own
 STATUS_BITS = 7  # of a byte of a basis: the other bits are flags of CLP's own
@@ -143,7 +144,9 @@ class Clp:
 
     Attributes:
         deadline_of_all: With which each solve of any relaxation ends at last.
-        seconds: Of the wall, that one solve of this relaxation may take.
+        deadline: Of what this relaxation is solved for: a solve gets the time that is left of it
+            when it begins, with a least and a most.
+        seconds: Of the wall, that one solve may take of a relaxation that has no such deadline.
         n: The count of columns.
         m: The count of rows.
         column_factors: By column: CLP's value is this times the column's own.
@@ -159,6 +162,7 @@ class Clp:
     """
 
     deadline_of_all = Deadline()
+    deadline: Optional[Deadline] = None
     seconds = math.inf
 
     @classmethod
@@ -191,11 +195,18 @@ class Clp:
             self.model = None
 
     def limit(self, deadline: Deadline) -> None:
-        """Sets `seconds`, that each later solve may take, to what the deadline has left now.
+        """From now on each solve gets the time that the deadline has left when the solve begins.
 
-        That is at least LEAST_SOLVE_SECONDS, and at most MOST_SOLVE_SECONDS.
+        That is at least LEAST_SOLVE_SECONDS and at most MOST_SOLVE_SECONDS.
         """
-        self.seconds = min(max(deadline.left(), LEAST_SOLVE_SECONDS), MOST_SOLVE_SECONDS)
+        self.deadline = deadline
+
+    def seconds_of_solve(self) -> float:
+        """Of the wall, how long a solve may take that begins now."""
+        seconds = self.seconds
+        if self.deadline is not None:
+            seconds = min(max(self.deadline.left(), LEAST_SOLVE_SECONDS), MOST_SOLVE_SECONDS)
+        return min(seconds, self.deadline_of_all.left())
 
     def set_tolerance(self, tolerance: float) -> None:
         """Sets by how much later solves may miss rows and bounds: CLP's primal tolerance.
@@ -227,14 +238,18 @@ class Clp:
 
         Returns:
             OTHER where it was stopped by iterations, `seconds` or `deadline_of_all`.
+
+        Raises:
+            TimeOver: The time of exact work was over before it began.
         """
+        check_work()
         lib, model = self.lib, self.model
         self._send_bounds()
         lib.Clp_setNumberIterations(model, 0)
         lib.Clp_setMaximumIterations(model, most_iterations)
         now = time.monotonic()
         portion = FIRST_SLICE
-        end = now + min(self.seconds, self.deadline_of_all.left())
+        end = now + self.seconds_of_solve()
         while True:
             seconds = max(min(end - now, portion), 0.0) if end < math.inf else -1.0
             lib.Clp_setMaximumSeconds(model, seconds)

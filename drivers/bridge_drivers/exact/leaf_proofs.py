@@ -26,7 +26,7 @@ from .dual_bound import (
     needed_row_bound,
     reduced_cost_term,
 )
-from .work_limit import check_work
+from .work_limit import check_work, checked
 
 ZERO_MULTIPLIER = 1e-11  # multipliers in doubles up to this size count as 0
 DECIMAL_DIGITS = (0, 1, 2, 3, 4, 5, 6, 7, 8, 9, 10, 12, 14)  # beyond the first of the greatest one
@@ -217,16 +217,40 @@ def from_ratios(
 ) -> Multipliers:
     """Multipliers by row over their least common denominator, without those that are 0 and those
     whose row lacks the bound that they need."""
-    kept = {
+    kept = _with_row_bounds(program, values)
+    common = math.lcm(1, *{denominator for _, denominator in kept.values()})
+    return _over(common, kept, kind)
+
+
+def _with_row_bounds(program: IntegerProgram, values: Mapping[int, Ratio]) -> Dict[int, Ratio]:
+    """Without zeros, and without those that lack the row bound which they rest on."""
+    return {
         row: ratio
         for row, ratio in values.items()
         if ratio[0] and has_needed_bound(program, row, ratio[0])
     }
-    common = math.lcm(1, *{denominator for _, denominator in kept.values()})
+
+
+def _over(common: int, values: Mapping[int, Ratio], kind: MultiplierKind) -> Multipliers:
+    """Multipliers over a multiple of all their denominators."""
     numerators = {
-        row: numerator * (common // denominator) for row, (numerator, denominator) in kept.items()
+        row: numerator * (common // denominator) for row, (numerator, denominator) in values.items()
     }
     return Multipliers(numerators, common, kind)
+
+
+def common_denominator(values: Iterable[Ratio], most: int) -> Optional[int]:
+    """The least common denominator; None as soon as that of some of them is above `most`.
+
+    That of many unlike fractions has as many digits as all their denominators together.
+    """
+    common = 1
+    for _, denominator in checked(values):
+        if common % denominator:
+            common = math.lcm(common, denominator)
+            if common > most:
+                return None
+    return common
 
 
 def from_fractions(
@@ -309,11 +333,25 @@ def _decimals_and_fractions(
     digits = iter(DECIMAL_DIGITS)
     for place in range(len(DECIMAL_DIGITS) + len(DENOMINATORS)):
         if place in DENOMINATORS:
-            largest = DENOMINATORS[place]
-            ratios = {row: last_convergent(v, largest) for row, v in values.items()}
-            yield from_ratios(program, ratios, kind)
+            found = short_fractions(program, values, DENOMINATORS[place], kind)
+            if found is not None:
+                yield found
         else:
             yield rounded(program, values, first_digit + next(digits), kind)
+
+
+def short_fractions(
+    program: IntegerProgram, values: Mapping[int, float], largest: int, kind: MultiplierKind
+) -> Optional[Multipliers]:
+    """Multipliers as fractions with denominators up to `largest`.
+
+    Returns:
+        None where their common denominator is too long for a certificate.
+    """
+    ratios = {row: last_convergent(v, largest) for row, v in checked(values.items())}
+    kept = _with_row_bounds(program, ratios)
+    common = common_denominator(kept.values(), LARGEST_DENOMINATOR)
+    return None if common is None else _over(common, kept, kind)
 
 
 def repaired_bound(

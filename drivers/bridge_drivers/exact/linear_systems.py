@@ -38,7 +38,7 @@ import numpy.typing as npt
 
 from ..system.errors import NotSolved, TooManyBits
 from ..system.signals import SIGNALS
-from .work_limit import check_work
+from .work_limit import check_work, checked
 
 # Elimination
 RHS = -1  # the unknown of a row whose value is -1: its coefficient is the right-hand side
@@ -178,7 +178,7 @@ class Elimination(IntegerRows):
         super().__init__()
         self.most_work = most_work
         self.names_by_length: DefaultDict[int, Set[int]] = defaultdict(set)
-        for name, (coefficients, rhs) in enumerate(system):
+        for name, (coefficients, rhs) in enumerate(checked(system)):
             row = {k: a for k, a in (*coefficients.items(), (RHS, rhs)) if a}
             common = lcm(*(a.denominator for a in row.values()))
             self.add(name, {k: int(a * common) for k, a in row.items()})
@@ -256,7 +256,7 @@ def solve_exactly(
     except (InconsistentSystem, WorkLimit):
         return None
     values = {RHS: Fraction(-1)}
-    for unknown, row in reversed(pivots):
+    for unknown, row in checked(reversed(pivots)):
         known = (a * values[k] for k, a in row.items() if k != unknown and values.get(k))
         values[unknown] = -sum(known, Fraction(0)) / row[unknown]
     del values[RHS]
@@ -346,7 +346,9 @@ class LiftedSystem:
 
         Raises:
             NotSolved: It is singular in doubles.
+            TimeOver: The time of exact work is over.
         """
+        check_work()
         sparse = scipy_or_none()
         doubles = self.matrix.tocsc().astype(float)
         self.row_factors = _scaling_powers(abs(doubles).max(axis=1))
@@ -506,7 +508,7 @@ class _Lifting:
         starts = self.matrix.indptr.tolist()
         columns = self.matrix.indices.tolist()
         coefficients = self.matrix.data.tolist()
-        for i, rhs in enumerate(self.rhs):
+        for i, rhs in enumerate(checked(self.rhs)):
             places = range(starts[i], starts[i + 1])
             activity = sum([coefficients[k] * found.numerators[columns[k]] for k in places])
             if activity != found.denominator * rhs:
@@ -533,7 +535,7 @@ def reconstructed(values: Sequence[int], bits: int, error: int) -> Optional[Rati
     denominator = 1
     half = 1 << bits - 1
     found: List[Tuple[int, int]] = []
-    for value in values:
+    for value in checked(values):
         scaled, room = value * denominator, denominator * error
         numerator, factor = (scaled + half) >> bits, 1
         if abs(scaled - (numerator << bits)) > room:

@@ -21,7 +21,7 @@ from .clp import Basis, LpStatus, library
 from .dual_bound import fits_certificate
 from .linear_systems import solve_exactly
 from .relaxation import relaxation
-from .work_limit import check_work
+from .work_limit import check_work, checked
 
 INTEGER_TOLERANCE = 1e-3  # how far from whole numbers the integer columns of a point may be
 NEAR_BOUND = Fraction(1, 10**9)  # of a bound's size, or of 1: a value is meant to be the bound
@@ -145,7 +145,7 @@ def nearby_points(program: IntegerProgram, x: Sequence[Number]) -> Iterator[Poin
     Raises:
         TimeOver: The time of exact work is over, before the next is tried.
     """
-    given = [Fraction(v) for v in x]
+    given = [Fraction(v) for v in checked(x)]
     if all(isinstance(v, Fraction) for v in x) and program.is_feasible(given):
         yield given
         return
@@ -153,7 +153,8 @@ def nearby_points(program: IntegerProgram, x: Sequence[Number]) -> Iterator[Poin
     for tolerance, largest in itertools.product((NEAR_BOUND, ZERO), DENOMINATORS):
         check_work()
         point = [
-            _short_value(program, j, value, largest, tolerance) for j, value in enumerate(given)
+            _short_value(program, j, value, largest, tolerance)
+            for j, value in enumerate(checked(given))
         ]
         if _is_near(point, given) and point not in seen and program.is_feasible(point):
             seen.append(point)
@@ -162,7 +163,9 @@ def nearby_points(program: IntegerProgram, x: Sequence[Number]) -> Iterator[Poin
 
 def _is_near(point: Point, x: Sequence[Fraction]) -> bool:
     """Whether no value of the point is farther from that of x than NEAR_POINT of its size, or of 1."""
-    return all(abs(v - near) <= NEAR_POINT * max(ONE, abs(near)) for v, near in zip(point, x))
+    return all(
+        abs(v - near) <= NEAR_POINT * max(ONE, abs(near)) for v, near in checked(zip(point, x))
+    )
 
 
 def _short_value(
@@ -375,7 +378,7 @@ def find_ray(cone: IntegerProgram) -> Optional[Point]:
         return None
     x = clp.values()
     for largest in DENOMINATORS:
-        direction = [Fraction(v).limit_denominator(largest) for v in x]
+        direction = [Fraction(v).limit_denominator(largest) for v in checked(x)]
         if is_ray(cone, direction):
             return direction
     found = vertex(cone, clp.basis(), x)

@@ -19,7 +19,7 @@ from .dual_bound import DualBound, MultiplierKind, Multipliers, dual_bound, has_
 from .leaf_proofs import repaired_bound, rounded
 from .linear_systems import solve_exactly
 from .short_points import solve_again
-from .work_limit import check_work
+from .work_limit import check_work, checked
 
 COST_MARGINS = (0.0, 1e-9, 1e-7, 1e-5)  # as shares of the largest cost
 GOOD_GAP = 1e-6  # of the objective, or of 1: a bound that is good enough
@@ -147,7 +147,7 @@ def with_zero_reduced_costs(
                 {i: a * program.cost_scale for i, a in program.matrix.column(j) if movable[i]},
                 bound.reduced_costs[j],
             )
-            for j in columns
+            for j in checked(columns)
         ]
         moves = solve_exactly(system)
         moved = None if moves is None else _moved(program, given, moves)

@@ -127,7 +127,8 @@ class CertificationTask:
         clp = relaxation(self.program)
         if answer.basis is not None and answer.values is not None:
             clp.warm_start(answer.basis, answer.doubles())
-        clp.seconds = ONE_LEAF_SECONDS
         if self.options.proves or self.is_linear:
             clp.limit(self.deadline)
+        else:
+            clp.seconds = ONE_LEAF_SECONDS
         return SolvedRelaxation(clp, clp.solve_by_either())

@@ -7,9 +7,14 @@ to break them off in the middle of a line. What is known by then is told (`certi
 from __future__ import annotations
 
 from contextvars import ContextVar
+from typing import Iterable, Iterator, TypeVar
 
 from ..system.deadline import Deadline
 from ..system.errors import TimeOver
+
+STEPS_BETWEEN_CHECKS = 256  # of a loop whose single steps are short
+
+Item = TypeVar("Item")
 
 _deadline: ContextVar[Deadline] = ContextVar("deadline of exact work", default=Deadline())
 
@@ -35,3 +40,18 @@ def check_work() -> None:
     """
     if _deadline.get().is_over():
         raise TimeOver()
+
+
+def checked(items: Iterable[Item]) -> Iterator[Item]:
+    """The same items, for a loop of many short steps over them.
+
+    The time is looked at once in STEPS_BETWEEN_CHECKS items, so that a loop over few of them pays
+    nothing for it.
+
+    Raises:
+        TimeOver: The time of exact work is over.
+    """
+    for count, item in enumerate(items, 1):
+        if count % STEPS_BETWEEN_CHECKS == 0:
+            check_work()
+        yield item

@@ -91,10 +91,10 @@ def whole_form(bridge: Bridge, nl: str, program: LinearProgram) -> WholeForm:
     names = [name for name in program.names.rows if name != EPIGRAPH_ROW]
     if not program.is_exported:
         return WholeForm(IntegerProgram.of(program, {}, len(names)), {})
-    known = {
-        int(row[1:]): Fraction(factor) for row, factor in factors_of(bridge, nl, names).items()
-    }
+    texts = factors_of(bridge, nl, names)
+    known = {text: Fraction(text) for text in set(texts.values())}  # most rows have the same one
     if any(factor.denominator != 1 or factor < 0 for factor in known.values()):
         raise UnsupportedModel("a row's factor is not whole")
-    factors = {i: int(factor) for i, factor in known.items() if factor > 1}
+    large = {text: int(factor) for text, factor in known.items() if factor > 1}
+    factors = {int(row[1:]): large[text] for row, text in texts.items() if text in large}
     return WholeForm(IntegerProgram.of(program, factors, read_header(nl).constraints), factors)
