@@ -188,8 +188,7 @@ class BridgeCmd(pulp.LpSolver_CMD):
         )
 
     def _options(self) -> dict[str, Any]:
-        """The arguments of `solve` beside the model and the solver; what is given as a word holds
-        against an argument.
+        """The arguments of `solve` beside model and solver; a word holds against an argument.
 
         Raises:
             WrongOption: A word is no option.
@@ -238,8 +237,9 @@ def write_problem(lp: pulp.LpProblem, path: str) -> WrittenProblem:
 
 
 def can_be_names(names: Iterable[str]) -> bool:
-    """Whether each is one printable word of at most LONGEST_NAME bytes, as an MPS file has it, and
-    none stands twice.
+    """Whether each is one printable word of at most LONGEST_NAME bytes, and none stands twice.
+
+    An MPS file can have such names.
     """
     listed = list(names)
     return len(set(listed)) == len(listed) and all(
@@ -249,9 +249,7 @@ def can_be_names(names: Iterable[str]) -> bool:
 
 
 def in_arguments(text: str) -> str:
-    """What a driver tells, with the arguments of this class in place of its words, as
-    ARGUMENTS_BY_WORDS pairs them.
-    """
+    """What a driver tells, with arguments in place of its words (ARGUMENTS_BY_WORDS)."""
     for word, argument in ARGUMENTS_BY_WORDS:
         text = text.replace(word, argument)
     return text
@@ -272,8 +270,7 @@ def empty_interval(lp: pulp.LpProblem) -> str:
 def with_sense_and_constant(
     mps: str, objective: str, constant: float | None, *, maximise: bool
 ) -> str:
-    """PuLP's MPS text with what it leaves out: the sense, which it tells in a comment, and the
-    objective's constant.
+    """PuLP's MPS text with what it leaves out: the sense, and the objective's constant.
 
     Args:
         mps: The text.
@@ -305,9 +302,7 @@ def statuses_of(code: int, last: str = "") -> Statuses:
 
 
 def _clear_values(lp: pulp.LpProblem) -> None:
-    """Takes duals, slacks and reduced costs from a problem that another solver left: they do not
-    pass for this one's.
-    """
+    """Takes from a problem the duals, slacks and reduced costs that another solver left."""
     for variable in lp.variables():
         variable.dj = None
     for constraint in lp.constraints.values():
@@ -315,8 +310,9 @@ def _clear_values(lp: pulp.LpProblem) -> None:
 
 
 def _assign_values(lp: pulp.LpProblem, report: Report, names: Mapping[str, str]) -> None:
-    """Assigns values, slacks, duals and reduced costs in doubles, each where there are any; without
-    values each is None.
+    """Assigns values, slacks, duals and reduced costs in doubles, each where there are any.
+
+    Without values each variable's is None.
 
     Args:
         lp: The problem.

@@ -1,5 +1,4 @@
-"""`bridge-certify MODEL [option=value ..]`: a certificate of what is true of a model, and the
-verdict on it.
+"""`bridge-certify MODEL [option=value ..]`: a certificate of what is true of a model.
 
 It takes the options of its driver. `CertifyCommand` is that driver's command with other options and
 another end; nl-bridge asks it for help on options.
@@ -88,9 +87,7 @@ class CertifyCommand(DriverCommand):
         return False
 
     def message_of(self, outcome: Outcome) -> List[str]:
-        """The lines that are told, without that on the file in the workspace where the certificate
-        is printed.
-        """
+        """The lines that are told; where the certificate is printed, without that on its file."""
         stored = outcome.stored.line if outcome.stored and self.prints_certificate else None
         return [line for line in outcome.lines if line != stored]
 
@@ -114,9 +111,7 @@ class CertifyCommand(DriverCommand):
         return status
 
     def failed(self, error: BridgeError) -> int:
-        """Tells why there is no outcome, and that a file at the certificate's place stays as it
-        was; the exit status.
-        """
+        """Tells why there is no outcome, and that an older certificate stays; the exit status."""
         status = super().failed(error)
         path = self.options.text("certificate")
         if os.path.isfile(path) and not self.prints_certificate:
@@ -125,8 +120,9 @@ class CertifyCommand(DriverCommand):
 
 
 def run_certify(argv: Sequence[str], console: Console) -> int:
-    """The exit status of a call: finds the option `driver=NAME` among its words, and runs the
-    command of that solver.
+    """The exit status of a call.
+
+    Finds the option `driver=NAME` among its words, and runs the command of that solver.
 
     Args:
         argv: The words behind the command's name.

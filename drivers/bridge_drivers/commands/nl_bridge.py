@@ -282,8 +282,7 @@ def _toolchain_words(facts: Mapping[str, str]) -> str:
 
 
 def _imported(call: FrontCall) -> Report:
-    """The report of `import FILE NL`: an MPS text is written into an .nl file, with its names
-    beside it.
+    """The report of `import FILE NL`: an MPS text is written as an .nl file, names beside it.
 
     Raises:
         BridgeError: It is refused, or a file cannot be read or written.
@@ -321,8 +320,7 @@ REPORTS: Mapping[str, Callable[[FrontCall], Report]] = {
 
 
 def _plain_files(workspace: Workspace, words: Sequence[str]) -> List[str]:
-    """The words behind a command of the proved program, with its files as plain ones that it can
-    read.
+    """The words behind a command of the proved program, files as plain ones that it can read.
 
     Args:
         workspace: Where copies are made; it has to outlive the call.
@@ -389,8 +387,7 @@ def _pass_on(place: Sequence[str], words: Sequence[str], console: Console) -> in
 def _run_proved_program(
     place: Sequence[str], call: Sequence[str], words: Sequence[str], console: Console
 ) -> int:
-    """Runs the proved program and passes on what it writes; its exit status, below 0 after a
-    signal.
+    """Runs the proved program and passes on what it writes; its status, below 0 after a signal.
 
     A verdict is in colour on a terminal, and a file that cannot be read is told with its cause.
 

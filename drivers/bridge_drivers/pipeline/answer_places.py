@@ -54,8 +54,9 @@ def _values(answer: Answer, columns: int) -> List[Union[float, Fraction]] | None
 
 
 def _basis(found: SolverAnswer, columns: int, numbers: Mapping[int, int]) -> clp.Basis | None:
-    """The basic columns, and the rows that are not basic (their slack is at a bound); None where
-    the solver told no basis.
+    """The basic columns, and the rows that are not basic: their slack is at a bound.
+
+    None where the solver told no basis.
 
     Args:
         found: What the solver answered, by column and row of the exported program.

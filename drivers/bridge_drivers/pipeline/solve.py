@@ -75,8 +75,7 @@ def solve_model(source: Source, settings: Settings, monitor: Monitor | None = No
 
 
 def write_solver_input(source: Source, settings: Settings, overwrite: bool, named: str) -> Outcome:
-    """Writes the MPS text that a solver reads into STUB.SOLVER.mps beside the model; nothing is
-    solved.
+    """Writes the MPS text that a solver reads into STUB.SOLVER.mps, and solves nothing.
 
     Args:
         source: The model.
@@ -260,8 +259,7 @@ class SolveRun:
         return AnsweredRun(self.solver, settings, run, judge, notes).outcome()
 
     def _read(self) -> ReadProgram | Outcome:
-        """The program that is exported; an outcome where the proved program refuses an empty
-        interval.
+        """The program that is exported, or the outcome where an empty interval refuses the model.
 
         Where files in between are kept, the model's text is copied there.
 
@@ -312,8 +310,9 @@ class SolveRun:
         return self.source.path, []
 
     def _exported(self, path: str) -> LinearProgram:
-        """What the proved program makes of the file, with the user's own names and the seconds told
-        to the monitor.
+        """What the proved program makes of the file, with the user's own names.
+
+        The monitor is told the seconds.
 
         Args:
             path: That of the text which the proved program reads.
@@ -365,8 +364,9 @@ class SolveRun:
 
 
 def _keep_copy(path: str, target: str) -> None:
-    """Copies the model's text into a folder that is kept, unless it stands there; MiniZinc, for
-    one, removes its file.
+    """Copies the model's text into a folder that is kept, unless it stands there.
+
+    MiniZinc, for one, removes its file.
 
     Args:
         path: Of the text that the proved program reads.
