@@ -42,10 +42,12 @@ class Packing(enum.Enum):
 
     @property
     def end(self) -> str:
+        """The end of a packed file's name, with its dot."""
         return self.value[0]
 
     @property
     def mark(self) -> bytes:
+        """The first bytes of a packed file."""
         return self.value[1]
 
     def unpack(self, packed: BinaryIO) -> BinaryIO:
@@ -154,7 +156,11 @@ def is_mps_start(start: bytes) -> bool:
 
 
 def is_lp_start(start: bytes) -> bool:
-    """Whether a text's first word behind comments and empty lines is a sense of LP."""
+    """Whether a text's first word behind comments and empty lines is a sense of LP.
+
+    Args:
+        start: The first bytes, unpacked; one that ends within a comment is none.
+    """
     at = 0
     while at < len(start):
         if start.startswith(b"/*", at):
@@ -180,7 +186,10 @@ def is_nl_start(start: bytes) -> bool:
 
 
 def model_kind_of_start(start: bytes) -> Optional[ModelKind]:
-    """The kind of a model by its first bytes; None where they are of no model."""
+    """The kind of a model by its first bytes, unpacked; None where they are of no model.
+
+    `OutputFiles` asks it of what stands at a place, and of what would be written there.
+    """
     if is_nl_start(start):
         return ModelKind.NL
     if is_mps_start(start):

@@ -39,7 +39,7 @@ Places = NDArray[np.int32]
 
 
 class RowBounds(NamedTuple):
-    """Bounds of rows, whole numbers over one denominator; None: there is no such bound."""
+    """Bounds by row, whole numbers over one denominator; None: there is no such bound."""
 
     lower: List[Optional[int]]
     upper: List[Optional[int]]
@@ -152,7 +152,7 @@ class _Section(NamedTuple):
             at = end
 
     def records(self) -> Iterator[List[bytes]]:
-        """The words of each line behind its blank, with an empty word in front of them."""
+        """The words of each line behind an empty one: a line begins with a blank."""
         for block in self.blocks():
             for line in block.split(b"\n"):
                 if line:
@@ -190,6 +190,7 @@ class _MpsReader:
     """
 
     def __init__(self, text: bytes) -> None:
+        """Reads all of a text in the written form but its right-hand sides and ranges."""
         self.kinds: List[str] = []
         self.rows: List[bytes] = []
         self.objective = b""

@@ -68,6 +68,7 @@ class _Node:
         opcode: Optional[int] = None,
         has_arguments: bool = False,
     ) -> None:
+        """A node without operands; the arguments are the attributes of the class."""
         self.text = text
         self.missing = missing
         self.opcode = opcode

@@ -234,5 +234,5 @@ def nearest_double(value: Union[Fraction, int]) -> Optional[float]:
 
 
 def decimal_or_fraction(fraction: str) -> str:
-    """The text `p/q` of a verdict as a decimal where it has one, else as it is."""
+    """A verdict's text `p/q`, or whole number, as a decimal where it has one, else as it is."""
     return exact_decimal(Fraction(fraction)) or fraction

@@ -270,11 +270,13 @@ class _Rejoined(io.RawIOBase):
     """
 
     def __init__(self, front: bytes, rest: BinaryIO) -> None:
+        """Of a stream from which the bytes `front` were read; `rest` is the stream behind them."""
         self.front = front
         self.rest = rest
         self.count = 0
 
     def readable(self) -> bool:
+        """True, as `io.BufferedReader` asks."""
         return True
 
     def readinto(self, buffer: bytearray) -> int:  # type: ignore[override]

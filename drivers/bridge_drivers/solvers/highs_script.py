@@ -48,6 +48,7 @@ class DoubleArrays:
     """
 
     def __init__(self, program: LinearProgram) -> None:
+        """Of a program as solvers read it; costs are turned so that they are minimised."""
         rows = program.matrix
         self.sign = -1.0 if program.maximise else 1.0
         self.row_lower = program.row_lower

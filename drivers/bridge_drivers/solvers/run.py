@@ -97,7 +97,10 @@ class SolverRun:
         self.exit_status = 0
 
     def is_continuous(self) -> bool:
-        """Whether no column has to be a whole number."""
+        """Whether no column has to be a whole number: there is none, or they are relaxed.
+
+        Only then are duals and a basis asked for.
+        """
         return not self.program.integer_count or self.settings.relax
 
     def path(self, name: str) -> str:

@@ -36,7 +36,7 @@ class BridgeError(Exception):
 
     @property
     def code(self) -> int | None:
-        """AMPL's code where a driver failed; None of other calls."""
+        """AMPL's code where a driver failed; None of other calls, or without a report."""
         return None if self.report is None else self.report.code
 
     @property
@@ -63,6 +63,7 @@ class Damaged(ModelRefused):
     """A packed or binary file, at `path`, that cannot be read."""
 
     def __init__(self, path: str, reason: str) -> None:
+        """Of a file at `path`; the reason is a clause that can stand behind it."""
         super().__init__(reason)
         self.path = path
 
@@ -74,6 +75,7 @@ class TooLarge(ModelRefused):
     """A source that goes on past its limit; `size` bytes were read of it until then."""
 
     def __init__(self, path: str, size: int) -> None:
+        """Of a file at `path`, as the user calls it, and the bytes that were read of it."""
         super().__init__(f"it is larger than is read, {size} bytes or more")
         self.path = path
         self.size = size
@@ -83,9 +85,15 @@ class TooLarge(ModelRefused):
 
 
 class TakesNoIntegers(ModelRefused):
-    """The solver takes no integer variables, and the model has some."""
+    """The solver takes no integer variables, and the model has some.
+
+    Attributes:
+        solver: Its title.
+        integers: How many the model has.
+    """
 
     def __init__(self, solver: str, integers: int) -> None:
+        """Of the solver's title, and the count of integer variables."""
         super().__init__(f"the model has {integers} integer variables")
         self.solver = solver
         self.integers = integers
@@ -122,7 +130,12 @@ class FileAction(enum.Enum):
 
 
 class FileFault(BridgeError):
-    """A file cannot be read or written; `path` is empty where the reason names it."""
+    """A file cannot be read or written.
+
+    Attributes:
+        path: Of the file; "" where the reason names it.
+        action: What was tried with it.
+    """
 
     def __init__(self, path: str, reason: str, action: FileAction) -> None:
         """Of what was tried with a file, which sets `status`.
@@ -156,6 +169,7 @@ class FileStays(FileFault):
     """What stands at a place is not replaced, and nothing is written there."""
 
     def __init__(self, path: str, reason: str) -> None:
+        """Of an output's path, and why what stands there stays (`system.files.WhyItStays`)."""
         super().__init__(path, reason, FileAction.WRITE)
 
 
@@ -163,6 +177,7 @@ class NoModel(FileFault):
     """The word of a call names no model; the reason is a whole sentence on what stands there."""
 
     def __init__(self, word: str, reason: str) -> None:
+        """Of the word as the user gave it, and a whole sentence."""
         super().__init__(word, reason, FileAction.READ)
 
     def describe(self) -> str:
@@ -204,6 +219,7 @@ class NotStarted(NotInstalled):
     """
 
     def __init__(self, program: str, reason: str, tried: str = "run") -> None:
+        """Of the program's path, why it cannot be run, and what was tried: a participle."""
         super().__init__(reason)
         self.program = program
         self.tried = tried
@@ -230,7 +246,7 @@ class SolverFailed(BridgeError):
 class UnclearAnswer(BridgeError):
     """What a solver wrote is no answer, or is not understood.
 
-    A class of `solvers` raises it; the run makes an `UnusableAnswer` of it, or asks once more.
+    The classes of `solvers` raise it; `pipeline.answered_run` makes an `UnusableAnswer` of it.
     """
 
 
@@ -279,6 +295,7 @@ class RunInterrupted(BridgeError):
     """
 
     def __init__(self, number: int) -> None:
+        """Of the signal's number; sets `status`."""
         super().__init__("interrupted")
         self.number = number
         self.status = ExitStatus(128 + number)
@@ -297,7 +314,7 @@ class SearchEnded(BridgeError):
 
 
 class SearchPaused(SearchEnded):
-    """The time or the nodes that a search had are over: it can go on."""
+    """The time or the nodes that a search had are over: given more, it can go on."""
 
 
 class DeadlineExceeded(SearchPaused):
@@ -331,7 +348,7 @@ class NotSolved(BridgeError):
 
 
 class TooManyBits(BridgeError):
-    """A solution needs numerators and denominators of more than `bits` bits."""
+    """A solution needs numerators and denominators of more than `bits` bits; it is given up."""
 
     def __init__(self, bits: int) -> None:
         super().__init__(f"more than {bits} bits")
@@ -347,6 +364,7 @@ class SolveInterrupted(KeyboardInterrupt):
     """
 
     def __init__(self, report: Any) -> None:
+        """Of the report of the call that was interrupted, whose text is the error's."""
         super().__init__(report.text)
         self.report = report
 
@@ -363,7 +381,9 @@ class Interrupted(BaseException):
         self.number = number
 
     def status(self) -> int:
-        """The exit status of a process that a signal ended, as a shell tells it."""
+        """The exit status of a process that a signal ended, as a shell has it: 128 and its
+        number.
+        """
         return 128 + self.number
 
 

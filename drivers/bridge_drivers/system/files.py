@@ -298,6 +298,7 @@ def _new_part_file(place: str, mode: int | None) -> BinaryIO:
     bits = MODE_OF_NEW_FILES if mode is None else mode & MODE_OF_NEW_FILES
 
     def opener(path: str, flags: int) -> int:
+        """Opens it with its final permissions, and not through a link."""
         return os.open(path, flags | getattr(os, "O_NOFOLLOW", 0), bits)
 
     for number in itertools.count(os.getpid()):

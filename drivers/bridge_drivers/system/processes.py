@@ -226,6 +226,7 @@ def _interrupts_to(
     told = on_interrupt
 
     def pass_on() -> None:
+        """Tells of the interrupt, and sends it to the child's group."""
         told()
         signal_group(child, signal.SIGINT)
 
@@ -305,6 +306,7 @@ class _Reader:
     """
 
     def __init__(self, stream: IO[bytes], sinks: Sequence[Sink]) -> None:
+        """Of a stream of a process, which is made not to wait when it is read."""
         self.number = stream.fileno()
         self.sinks = sinks
         waits = False
@@ -343,6 +345,7 @@ class _Memory:
     """
 
     def __init__(self, most: int) -> None:
+        """Of how many bytes are held at most, in both halves together."""
         self.most_of_half = most // 2
         self.first = bytearray()
         self.last: Deque[bytes] = collections.deque()
@@ -381,6 +384,7 @@ class _Lines:
     """
 
     def __init__(self, on_line: Optional[Callable[[str], None]], most: int) -> None:
+        """Of who is told, and how many bytes of a line are told at once."""
         self.on_line = on_line
         self.most = most
         self.rest = b""
@@ -417,6 +421,7 @@ class _Log:
     """
 
     def __init__(self, file: BinaryIO, most: int) -> None:
+        """Of an open file, and how many bytes it takes at most."""
         self.file = file
         self.room = most
 

@@ -34,6 +34,7 @@ class SignalGate:
     """
 
     def __init__(self) -> None:
+        """A gate that delivers, and handles no signal yet; see `install`."""
         self.is_deferring = False
         self.is_ending = False
         self.pending = 0
