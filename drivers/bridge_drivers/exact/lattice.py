@@ -65,6 +65,10 @@ class LLLReduction:
     """
 
     def __init__(self, vectors: Matrix) -> None:
+        """
+        Args:
+            vectors: All of the same length; they are copied.
+        """
         every = range(len(vectors))
         self.basis = [list(vector) for vector in vectors]
         self.coordinates = [[int(i == j) for j in every] for i in every]

@@ -129,7 +129,7 @@ class _Interval(NamedTuple):
 
 
 def _integral(bound: Bound, scale: int) -> Bound:
-    """A bound that is a whole number; None of another one."""
+    """A bound over `scale` if it is a whole number; None if it is not, or not there."""
     return None if bound is None or bound % scale else bound
 
 
@@ -250,7 +250,7 @@ def mir_cut(
 
 
 def _over_one_denominator(combination: Combination) -> Tuple[int, Dict[int, int]]:
-    """Short fractions near the multipliers: their denominator, and numerators by row; some may be 0."""
+    """Short fractions near the multipliers: their one denominator, and numerators by row."""
     ratios = {row: last_convergent(v, LARGEST_DENOMINATOR) for row, v in combination.items()}
     common = lcm(*(denominator for _, denominator in ratios.values()))
     if common > LARGEST_DENOMINATOR:

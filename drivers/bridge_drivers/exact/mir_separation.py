@@ -266,6 +266,9 @@ class MIRSeparator:
 
         That is the one that is farthest from its bounds. At most MOST_AGGREGATED_ROWS rows are in a
         sum, without those of variable bounds, which are added to each as it is yielded.
+
+        Args:
+            combination: One row, with the multiplier 1 or -1.
         """
         for _ in range(MOST_AGGREGATED_ROWS):
             total = aggregated(self.program, combination, 1 / self.program.row_scale)
