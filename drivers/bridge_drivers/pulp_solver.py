@@ -3,8 +3,9 @@
     from bridge_drivers.pulp_solver import BridgeCmd
     problem.solve(BridgeCmd("bridge-cbc", prove=True))
 
-PuLP writes MPS, which is judged as it stands. What is told, with what is certified, is then in `message`,
-with PuLP's names. PuLP writes 13 digits of each number; what is certified is of those numbers.
+PuLP writes MPS, which is judged as it stands. What is told, with what is certified, is then in
+`message`, with PuLP's names. PuLP writes 13 digits of each number; what is certified is of those
+numbers. The class is `BridgeCmd`; PuLP calls its methods.
 """
 
 from __future__ import annotations

@@ -120,12 +120,11 @@ class CertifyCommand(DriverCommand):
 
 
 def run_certify(argv: Sequence[str], console: Console) -> int:
-    """The exit status of a call.
-
-    Finds the option `driver=NAME` among its words, and runs the command of that solver.
+    """The exit status of a call: finds the solver, and runs its command.
 
     Args:
-        argv: The words behind the command's name.
+        argv: The words behind the command's name. Of words `driver=NAME` the first counts; in
+            another form, or in the variable, the option is read and changes nothing.
         console: Where it prints.
     """
     word = next(word for word in (*argv, "driver=cbc") if word.startswith("driver="))

@@ -135,7 +135,9 @@ class Console:
         self._write_output(printable(text))
 
     def error(self, text: str) -> None:
-        """Prints a line to standard error, or several, wherever messages go; the last end is added."""
+        """Prints one line or several to standard error, wherever messages go; the last end is
+        added.
+        """
         self._write_errors(printable(text) + "\n")
 
     @contextlib.contextmanager
@@ -233,7 +235,7 @@ class ProgressLine:
             wait = EVERY_SECONDS if self.in_place else LINE_SECONDS
 
     def _show(self, line: str) -> None:
-        """Shows one state of the progress: a line without its end, cut to the width of a terminal."""
+        """Shows one state of the progress: a line without its end, cut to a terminal's width."""
         if self.in_place:  # in the last column a terminal would begin another line
             self._write(CLEAR_LINE + cut_to_width(line, columns_of(self.stream) - 1))
             self._is_shown = True

@@ -160,7 +160,10 @@ def _driver_help_on(topic: str) -> str:
 
 
 def _any_driver() -> DriverCommand:
-    """A command of bridge-certify: it has the common options, its own, and those of the first solver."""
+    """A command of bridge-certify.
+
+    It has the common options, its own, and those of the first solver.
+    """
     return CertifyCommand(next(iter(SOLVERS)))
 
 

@@ -1,7 +1,8 @@
 """One run, from the source of a model to its outcome.
 
-`SolveRun` finds the programs, reads the model and makes the folder in which an `AnsweredRun` goes on.
-The drivers and the calls of the package make one each time; `solve_model` is the same in one call.
+`SolveRun` finds the programs, reads the model and makes the folder in which an `AnsweredRun` goes
+on. The drivers and the calls of the package make one each time; `solve_model` is the same in one
+call.
 """
 
 from __future__ import annotations
@@ -218,9 +219,11 @@ class SolveRun:
                     shutil.rmtree(folder, ignore_errors=True)
 
     def _finished(self, outcome: Outcome, kept_folder: str) -> Outcome:
-        """Sets what the whole run has to tell: in `kept_folder` and in the message where files are kept.
+        """Sets what the whole run has to tell: `kept_folder`, and a line on it where files are
+        kept.
 
-        Where the outcome has no answer to return, the command's name is put in front of the message.
+        Where the outcome has no answer to return, the command's name is put in front of the
+        message.
 
         Args:
             outcome: Is changed.
