@@ -218,9 +218,9 @@ class IntegerCertifier:
     def _without_exact_point(self, x: Sequence[Number], violation: Fraction) -> Evidence:
         """Where no exact point has the answer's integer columns: a refutation, or what is found.
 
-        A claim of a point that is worse than the answer does not take the answer's place, unless
-        the point is optimal or the answer is contradicted: then the reason why the answer is not
-        proved is told, with `contradicts_answer`.
+        A claim of a point that is worse than the answer does not take the answer's place, unless it
+        is `optimal` or the answer is contradicted. Where nothing takes it, the answer comes back as
+        not proved, with the reason and with `contradicts_answer`.
 
         Args:
             x: The answer's values by column.

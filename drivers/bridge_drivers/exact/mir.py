@@ -86,7 +86,10 @@ class Substitutions(Dict[int, Optional[Substitution]]):
         return self[place]
 
     def _from_nearest_bound(self, place: int) -> Optional[Substitution]:
-        """From the bound that x is nearer to, the lower one where both are as near."""
+        """The substitution from the bound that x is nearer to, the lower one where both are as near.
+
+        Its value is 0 where x is beyond that bound. None where there is no bound to count from.
+        """
         scale, value = self.program.bound_scale, self.x[place]
         row = place - self.program.n
         lower, upper, is_integer = self._column(place) if row < 0 else self._row(row)

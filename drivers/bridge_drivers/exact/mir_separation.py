@@ -250,8 +250,8 @@ class MIRSeparator:
     def aggregations(self) -> Iterator[Combination]:
         """Combinations of rows: each row alone, and sums of rows that begin with it.
 
-        It has the multiplier 1 where it has an upper bound, and -1 where it has a lower one. That
-        its activity counts from the nearer one is left to the substitution.
+        The first row has the multiplier 1 where it has an upper bound, and -1 where it has a lower
+        one; from which bound its activity counts is left to the substitution.
         """
         for row in range(self.program.m):
             for sign, bound in (
