@@ -210,7 +210,11 @@ def kind_of_start(start: bytes) -> Optional[FileKind]:
 
 
 def start_of_file(path: str) -> bytes:
-    """The first LOOKED_AT bytes of a plain file, unpacked; none where it cannot be read."""
+    """The first LOOKED_AT bytes of a plain file, unpacked; none where it cannot be read.
+
+    Raises:
+        zlib.error: It is packed by gzip, and damaged behind its head.
+    """
     try:
         with open(path, "rb") as file:
             packing = packing_of(file.read(6))
@@ -249,7 +253,11 @@ def is_packed_file(path: str) -> bool:
 def is_mps_file(path: str) -> bool:
     """Whether it is a plain file of MPS, packed or not, by its first bytes or its name.
 
-    A program (ELF) whose name ends with .mps is none.
+    A program (ELF) whose name ends with .mps is none. `nl-bridge` asks it of the files in its
+    words.
+
+    Raises:
+        zlib.error: As `start_of_file`.
     """
     if not os.path.isfile(path):
         return False

@@ -97,8 +97,8 @@ class MpsColumns:
     def negative_upper_bounds(self) -> List[int]:
         """The columns, by place, whose upper bound is below 0 and whose lower bound is not written.
 
-        The upper bound takes their lower one away; other readers of MPS keep 0, so that a note
-        tells of them.
+        The upper bound takes their lower one away. Other readers of MPS may take that otherwise, so
+        that a note tells of them.
         """
         return [
             column

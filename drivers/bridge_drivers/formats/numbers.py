@@ -214,7 +214,9 @@ def _shortest_decimals(values: Sequence[Number]) -> List[str]:
 
 
 def require_finite(values: Sequence[Number]) -> Sequence[Number]:
-    """The values themselves, once none of them is an infinite or undefined double.
+    """The values themselves, where no double among them is infinite or not a number.
+
+    A driver asks it of reduced costs, which are not written as decimals.
 
     Raises:
         NotDecimal: One of them is infinite, or not a number.

@@ -215,10 +215,10 @@ def _guard_of(child: subprocess.Popen[bytes]) -> Optional[subprocess.Popen[bytes
 def _interrupts_to(
     child: subprocess.Popen[bytes], on_interrupt: Optional[Callable[[], None]]
 ) -> Iterator[None]:
-    """A block whose first interrupt is told, and sent to the child's group, where somebody is told.
+    """A block whose first interrupt goes to the child's group, where somebody is told of it.
 
     Args:
-        on_interrupt: None: interrupts are as outside of the block.
+        on_interrupt: Is told of the interrupt; None: interrupts are as outside of the block.
     """
     if on_interrupt is None:
         yield
