@@ -86,7 +86,7 @@ class Substitutions(Dict[int, Optional[Substitution]]):
         return self[place]
 
     def _from_nearest_bound(self, place: int) -> Optional[Substitution]:
-        """The substitution from the bound that x is nearer to, the lower one where both are as near.
+        """The substitution from the bound that x is nearer to (the lower of equals).
 
         Its value is 0 where x is beyond that bound. None where there is no bound to count from.
         """
