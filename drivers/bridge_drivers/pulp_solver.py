@@ -211,8 +211,9 @@ class BridgeCmd(pulp.LpSolver_CMD):
 
 
 def write_problem(lp: pulp.LpProblem, path: str) -> WrittenProblem:
-    """Writes a problem as an MPS file in free form and UTF-8, with PuLP's own names where such a
-    file can have them, else with those that PuLP makes.
+    """Writes a problem as an MPS file in free form and UTF-8.
+
+    It has PuLP's own names where such a file can have them, else those that PuLP makes.
 
     Args:
         lp: The problem.

@@ -92,8 +92,9 @@ class CertifyCommand(DriverCommand):
         return [line for line in outcome.lines if line != stored]
 
     def deliver(self, outcome: Outcome) -> int:
-        """Writes and tells what is asked for as a driver does, then a line of figures with stats=1,
-        and prints the certificate where that is asked for.
+        """Writes and tells what is asked for, as a driver does.
+
+        Behind that stand figures with stats=1, and the certificate where it is to be printed.
 
         Returns:
             The exit status; where nothing is proved it is FAILED.

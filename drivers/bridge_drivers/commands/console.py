@@ -135,9 +135,7 @@ class Console:
         self._write_output(printable(text))
 
     def error(self, text: str) -> None:
-        """Prints one line or several to standard error, wherever messages go; the last end is
-        added.
-        """
+        """Prints one line or several to standard error, wherever messages go, and ends the last."""
         self._write_errors(printable(text) + "\n")
 
     @contextlib.contextmanager

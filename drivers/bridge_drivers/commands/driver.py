@@ -105,9 +105,7 @@ class DriverCommand:
     shows_short_table = True  # values are shown, where they are few, that nobody asked for
 
     def __init__(self, solver: str, console: Optional[Console] = None) -> None:
-        """Before the words of the call are known; options are those of the solver, and nothing was
-        said.
-        """
+        """Begins with the options of the solver, of which nothing was said, and without words."""
         self.solver = SOLVERS[solver]
         self.name = "bridge-" + solver
         self.options = self._new_options()
@@ -316,8 +314,10 @@ class DriverCommand:
         return outcome.lines
 
     def _tell(self, outcome: Outcome) -> None:
-        """Prints the message, unless -AMPL or `wantsol` forbids it, the numbers that are wanted,
-        and with outlev=2 the seconds. With failexit=1 MiniZinc's user is told the verdict.
+        """Prints the message, the numbers that are wanted, and with outlev=2 the seconds.
+
+        With -AMPL the message is printed only for failexit=1, and with 8 in `wantsol` never. With
+        failexit=1 MiniZinc's user is told the verdict.
         """
         fails_by_status = self.options.flag("failexit")
         is_silent = bool(self.options.number("wantsol") & NO_MESSAGE)

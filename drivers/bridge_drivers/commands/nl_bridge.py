@@ -149,7 +149,7 @@ def _help_on(topic: str) -> str:
 
 
 def _driver_help_on(topic: str) -> str:
-    """The help of a driver, or on an option that one has; "" where it is neither."""
+    """The help of a driver, or on an option that `_any_driver` has; "" where it is neither."""
     name = topic.removeprefix("bridge-")
     if topic != name and name in SOLVERS:
         return DriverCommand(name).help_text(HelpKind.HELP)
@@ -218,8 +218,9 @@ def _print_failure(call: FrontCall, report: Report, console: Console) -> int:
 
 
 def _explained(call: FrontCall) -> Report:
-    """The report of `explain`: on a call of another command, on a model alone or with an
-    objective's number (as `export` takes it), or on a certificate.
+    """The report of `explain` on a call of another command, on a model, or on a certificate.
+
+    A model may stand with an objective's number, as `export` takes it.
 
     Raises:
         BridgeError: The call or the model is refused, or a file cannot be read.

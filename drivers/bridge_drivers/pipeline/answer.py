@@ -139,8 +139,10 @@ class Answer:
         return is_clear and not self.residual.is_significant()
 
     def notes(self) -> list[str]:
-        """Lines for the message on the values that are written: integer ones that are not near
-        whole numbers, and fractions that are rounded to decimals.
+        """Lines for the message on the values that are written.
+
+        They tell of integer columns that are not near whole numbers, and of fractions that are
+        rounded to decimals.
         """
         notes = []
         if self.distances:
@@ -189,14 +191,16 @@ class Answer:
         return other
 
     def without_duals(self) -> Answer:
-        """The same values without duals and reduced costs, and so without the basis, which is
-        written beside reduced costs alone.
+        """The same values without duals and reduced costs.
+
+        The basis is then not written either: it stands beside reduced costs alone.
         """
         return self.with_duals(None)
 
     def with_duals(self, duals: Sequence[str] | None) -> Answer:
-        """The same values with other duals (a decimal for each row, none of them counted as
-        rounded; None for none), and without reduced costs.
+        """The same values with other duals, and without reduced costs.
+
+        The duals are a decimal for each row, none of them counted as rounded; None for none.
         """
         other = copy.copy(self)
         other.__dict__.pop("_body", None)

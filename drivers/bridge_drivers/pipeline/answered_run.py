@@ -371,8 +371,9 @@ def with_proved_duals(answer: Answer, verdict: Evidence, told: str) -> Answer | 
 
 
 def shows_its_claim(told: str, claim: str) -> bool:
-    """Whether a .sol needs no other duals: by the words of `bridge check` its own show what is
-    proved, or its values break the model.
+    """Whether a .sol needs no other duals.
+
+    By the words of `bridge check` its own show what is proved, or its values break the model.
 
     Args:
         told: These words: `yes V` where the duals show the optimum, `gap V W` where they show a

@@ -65,8 +65,9 @@ class Returned(NamedTuple):
 
 
 class WrittenNumbers(NamedTuple):
-    """Values and duals as decimals, in the order of the file's variables and constraints; the duals
-    are empty unless the program is continuous.
+    """Values and duals as decimals, in the order of the file's variables and constraints.
+
+    The duals are empty unless the program is continuous.
     """
 
     values: list[str]
@@ -185,8 +186,9 @@ class AnswerCertifier:
         return self._judged_values(values)
 
     def _values_of_file(self, answer: Answer) -> list[str]:
-        """The decimals of an answer's values by the file's variable, without the column of a
-        nonlinear objective's value; empty without a point.
+        """The decimals of an answer's values by the file's variable; empty without a point.
+
+        The column of a nonlinear objective's value is left out.
         """
         values = list(answer.values or ())
         return values[:-1] if self.program.names.columns[-1:] == [EPIGRAPH_COLUMN] else values
@@ -334,8 +336,9 @@ class AnswerCertifier:
             self.monitor.progress.tell(progress.step)
 
     def from_answer_itself(self, judge: CertificateJudge, answer: Answer) -> Evidence:
-        """What is proved where the answer's values and duals as they are written are the
-        certificate, or else both rounded to PLACES decimals.
+        """What an answer proves by itself: its values and duals are the certificate.
+
+        They are tried as they are written, then rounded to PLACES decimals.
 
         Only the rounded one has its point in the evidence.
         """
@@ -385,8 +388,10 @@ class AnswerCertifier:
     def closing_lines(
         self, verdict: Evidence, said: Statement | None, stored: StoredCertificate | None
     ) -> list[str]:
-        """The last lines of a message: the claim in words, what became of processes and
-        certificate, why no more is proved, and the verdict.
+        """The last lines of a message, the verdict behind all.
+
+        Before it stand the claim in words, what became of processes and certificate, and why no
+        more is proved.
 
         A search that was asked for and cannot be made is told as `not proved`, with what is proved
         without it.
@@ -496,8 +501,9 @@ class AnswerCertifier:
         return f"the reduced cost of {part} has no bound to rest on"
 
     def named_part(self, kind: str, number: int) -> str:
-        """A constraint (of the kind `row`) or variable (of any other) by its number in the file,
-        from 0, and its name where there is one.
+        """A constraint (of the kind `row`) or variable (of any other), by number and by name.
+
+        The number is the file's, from 0; the name is told where there is one.
         """
         names = self.program.own_names
         return names.constraint(number) if kind == "row" else names.variable(number)

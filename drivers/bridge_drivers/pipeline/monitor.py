@@ -45,8 +45,9 @@ class ProgressEvent(NamedTuple):
 
     @property
     def bound(self) -> float | None:
-        """What no point is better than, in the objective's own sense and as far as the solver or
-        the search says; None where nothing is known.
+        """What no point is better than, in the objective's own sense; None where nothing is known.
+
+        It is what the solver or the search says, and nothing proved.
         """
         return self.numbers.get("bound")
 
@@ -134,8 +135,9 @@ class Monitor(RunObserver):
         self.progress.begin(stage, limit)
 
     def log_line(self, line: str) -> None:
-        """Logs a line of the solver's log (level INFO), and tells the progress all numbers that
-        were read so far where it has any.
+        """Logs a line of the solver's log (level INFO).
+
+        Where it has numbers, the progress is told all that were read of the stage so far.
         """
         SOLVER_LOGGER.info("%s", line)
         found = self.read_line(line)

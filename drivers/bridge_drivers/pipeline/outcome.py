@@ -183,8 +183,9 @@ def _shortfall_of_own_point(found: Findings) -> str:
 
 
 def _of_answer(found: Findings) -> Ruling:
-    """The ruling where no point is proved, and the answer has one: what its values miss, then a
-    bound that they beat, then what its `optimal` lacks.
+    """The ruling where no point is proved, and the answer has one.
+
+    What its values miss counts first, then a bound that they beat, then what its `optimal` lacks.
     """
     answer = PointSource.ANSWER
     if found.violation is Violation.MUCH:
@@ -200,8 +201,9 @@ def _of_answer(found: Findings) -> Ruling:
 
 
 def _shortfall_of_answer(found: Findings) -> str:
-    """Why a solver's `optimal` earns no code 0 of which no point is proved; "" where it does: of a
-    continuous program only, with a bound that is met.
+    """Why a solver's `optimal` earns no code 0 where no point is proved; "" where it does.
+
+    It does only of a continuous program, with a bound that is met.
     """
     if found.is_contradicted or not found.is_continuous:
         return "no exact point has its whole values"

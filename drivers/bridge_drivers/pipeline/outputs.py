@@ -36,8 +36,9 @@ def named_reduced_costs(answer: Answer | None) -> NamedTexts:
 
 
 def named_duals(answer: Answer | None) -> NamedTexts:
-    """The duals of the file's constraints that were exported, as decimals in the objective's own
-    sense; empty where there are none.
+    """The duals of the file's constraints, as decimals in the objective's own sense.
+
+    Only constraints that were exported have one; empty where there are none.
 
     The row of a nonlinear objective's value is left out. Where the user knows no name, it is that
     of the exported text, such as c3.
@@ -157,8 +158,9 @@ def write_solution(outcome: Outcome, source: Source, outputs: OutputSettings) ->
 
 
 def exit_status(outcome: Outcome) -> ExitStatus:
-    """The exit status of a command that had this outcome: UNWRITTEN where its certificate was not
-    kept, NOT_SETTLED where `strict` is not met.
+    """The exit status of a command that had this outcome.
+
+    UNWRITTEN where its certificate was not kept, NOT_SETTLED where `strict` is not met, else DONE.
     """
     if outcome.stored is not None and outcome.stored.has_failed:
         return ExitStatus.UNWRITTEN

@@ -33,9 +33,7 @@ class ExactNumbers(Mapping[str, Fraction]):
     """
 
     def __init__(self, texts: Sequence[Tuple[str, str]]) -> None:
-        """Of names and decimals, in the order of the file; of two of the same name the later one
-        counts.
-        """
+        """Of names and decimals in the order of the file; of two of one name the later counts."""
         self.texts: Mapping[str, str] = dict(texts)
 
     def __getitem__(self, name: str) -> Fraction:
@@ -110,8 +108,10 @@ class Report:
     program: Sequence[str] = ()
 
     def object(self) -> JsonObject:
-        """The report as report.schema.json says: keys of OPTIONAL that have nothing are missing,
-        numbers are as `number_object` makes them, and those of `more` stand beside the others.
+        """The report as report.schema.json says.
+
+        Keys of OPTIONAL that have nothing are missing, numbers are as `number_object` makes them,
+        and the keys of `more` stand beside the others.
         """
         left_out = {*HIDDEN, *(key for key in OPTIONAL if getattr(self, key) is None)}
         found = {key: value for key, value in vars(self).items() if key not in left_out}

@@ -252,8 +252,9 @@ def kind_beside(answer: Answer, doubles: Sequence[float], objective: ObjectiveTe
 
 
 def have_other_values(old: ObjectiveTerms, new: ObjectiveTerms) -> bool:
-    """Whether two objectives are not the same in doubles: apart by more than RELATIVE_DIFFERENCE of
-    the largest term, or of the old one's sum.
+    """Whether two objectives are not the same in doubles.
+
+    They are apart by more than RELATIVE_DIFFERENCE of the largest term, or of the old one's sum.
     """
     size = max(old.largest, new.largest, abs(old.value))
     return abs(old.value - new.value) > RELATIVE_DIFFERENCE * size
@@ -323,8 +324,9 @@ def _at_proved_point(
 
 
 def _words_of_code(answer: Answer, verdict: Evidence, code: Code) -> str | None:
-    """The words of a code that are told in place of the solver's own; of a gap that was asked for
-    and is met there are words of its own.
+    """The words of a code that are told in place of the solver's own.
+
+    A gap that was asked for and is met has words of its own.
     """
     is_within = code == Code.SOLVED and verdict.claim == "within"
     return WORDS_OF_GAP if is_within and answer.found.is_gap else WORDS[code]

@@ -219,8 +219,9 @@ class SolveRun:
                     shutil.rmtree(folder, ignore_errors=True)
 
     def _finished(self, outcome: Outcome, kept_folder: str) -> Outcome:
-        """Sets what the whole run has to tell: `kept_folder`, and a line on it where files are
-        kept.
+        """Sets the outcome's `kept_folder`.
+
+        A line tells it where it is not the folder that was named itself.
 
         Where the outcome has no answer to return, the command's name is put in front of the
         message.
@@ -339,8 +340,9 @@ class SolveRun:
         return program
 
     def _refused(self, fault: Refusal, path: str) -> Outcome:
-        """The outcome of a model that is refused for an empty interval: it is infeasible, and
-        nothing is proved; with `strict` that has code 100.
+        """The outcome of a model that is refused for an empty interval.
+
+        It is infeasible, and nothing is proved; with `strict` that has code 100.
 
         Args:
             fault: The refusal.
