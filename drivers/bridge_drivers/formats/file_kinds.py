@@ -1,6 +1,8 @@
 """What a file is, by its first bytes and by its name, and what takes it.
 
-Each test of first bytes looks at each byte a bounded number of times: the file may be anyone's.
+`ModelKind` and `Packing` are what commands read, `FileKind` all else, with the help that a message
+has for it. Each test of first bytes looks at each byte a bounded number of times: the file may be
+anyone's.
 """
 
 from __future__ import annotations

@@ -6,6 +6,9 @@ a blank. Nothing that is proved rests on this reader.
 
 A text of a million entries has few numbers that differ. So each number stands once, as it is
 written, and entries are arrays of whole numbers by place.
+
+`read_mps` makes `MpsColumns` of a text, for `model.linear_program` and `program.mps_forms`;
+`canonical` and `write_mps` make a text in its own numbering of it.
 """
 
 from __future__ import annotations

@@ -1,8 +1,9 @@
 """Decimals: what the proved program reads, written from values and read as exact numbers.
 
 The proved program holds whole numbers up to 2^127 - 1 times a power of ten from -400 to 400. What
-solvers answer is written so; a fraction that has no such decimal is written as the nearest one of
-17 digits.
+solvers answer is written so (`decimals`); a fraction that has no such decimal is written as the
+nearest one of 17 digits. `read_decimal` is the one reader, on which those of fractions and of
+common denominators stand.
 """
 
 from __future__ import annotations

@@ -7,6 +7,8 @@ HiGHS here, whole numbers for the search in `integer_form`. Other solvers read t
 A text that `bridge export` writes has the columns x0, x1, .. and the rows c0, c1, .. of the file.
 Where the file's objective is nonlinear, a last column z stands for its value, which the row zdef
 ties to it. A file of MPS has its own names; it is written here once more, in its own numbering.
+
+Objectives and duals of this program are in the file's own sense; only `integer_form` minimises.
 """
 
 from __future__ import annotations

@@ -37,9 +37,7 @@ class RunObserver:
     """Is told what a run does. What is not overridden is not wanted. See `pipeline.monitor`."""
 
     def command_starts(self, argv: Sequence[str], folder: str) -> None:
-        """A process is about to start with these words in a folder, whose files have plain
-        names.
-        """
+        """A process is about to start with these words in a folder; its files have plain names."""
 
     def stage_begins(self, stage: str, limit: float) -> None:
         """Something is worked at from now on.

@@ -227,7 +227,8 @@ def new_file(path: str, *, append: bool = False) -> Iterator[BinaryIO]:
         append: Writes behind what the file has.
 
     Raises:
-        OSError: It cannot be written; it names the file. Those of the block are told so, too.
+        OSError: It cannot be written; it names the file. One of the block that names none gets this
+            name, too.
     """
     with _named_fault(path), open(path, "ab" if append else "wb") as out:
         yield out

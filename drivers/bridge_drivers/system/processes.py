@@ -353,9 +353,7 @@ class _Memory:
         self.dropped = 0  # bytes between both
 
     def add(self, data: bytes) -> None:
-        """Holds a piece of the stream; the oldest pieces of a last half that is too long are
-        dropped.
-        """
+        """Holds a piece of the stream; the oldest pieces of a last half that is too long go."""
         room = self.most_of_half - len(self.first)
         self.first += data[:room]
         rest = data[room:]
