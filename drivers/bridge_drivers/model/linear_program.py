@@ -8,7 +8,7 @@ A text that `bridge export` writes has the columns x0, x1, .. and the rows c0, c
 Where the file's objective is nonlinear, a last column z stands for its value, which the row zdef
 ties to it. A file of MPS has its own names; it is written here once more, in its own numbering.
 
-Objectives and duals of this program are in the file's own sense; only `integer_form` minimises.
+Values of the objective here are in the file's own sense; `integer_form` is minimised.
 """
 
 from __future__ import annotations

@@ -68,6 +68,7 @@ class Damaged(ModelRefused):
         self.path = path
 
     def describe(self) -> str:
+        """The path, and the reason behind a colon."""
         return f"{self.path}: {self.reason}"
 
 
@@ -81,6 +82,7 @@ class TooLarge(ModelRefused):
         self.size = size
 
     def describe(self) -> str:
+        """The path, and the reason behind a colon."""
         return f"{self.path}: {self.reason}"
 
 
@@ -99,6 +101,7 @@ class TakesNoIntegers(ModelRefused):
         self.integers = integers
 
     def describe(self) -> str:
+        """What the solver does not take, and the option that drops it."""
         return (
             f"{self.solver} takes no integer variables, and the model has {self.integers}; "
             "relax=1 drops that they are whole"
@@ -115,10 +118,12 @@ class WrongWords(WrongOption):
     """Words that no command takes; `meant` is ` did you mean ..?`, or ""."""
 
     def __init__(self, reason: str, meant: str = "") -> None:
+        """Of the reason, and of ` did you mean ..?`; "" where nothing was meant."""
         super().__init__(reason)
         self.meant = meant
 
     def describe(self) -> str:
+        """The reason, what was probably meant, and where commands are listed."""
         return f"{self.reason};{self.meant} -h lists the commands"
 
 
@@ -151,6 +156,7 @@ class FileFault(BridgeError):
         self.status = action.value
 
     def describe(self) -> str:
+        """The path and the reason; the reason alone where there is no path."""
         return f"{self.path}: {self.reason}" if self.path else self.reason
 
     @staticmethod
@@ -181,6 +187,7 @@ class NoModel(FileFault):
         super().__init__(word, reason, FileAction.READ)
 
     def describe(self) -> str:
+        """The reason alone, which is a whole sentence."""
         return self.reason
 
 
@@ -200,12 +207,16 @@ class NotFound(NotInstalled):
     """
 
     def __init__(self, program: str, remedy: str, other: str = "") -> None:
+        """Of the name of what was not found, what helps, and the path of another program of that
+        name.
+        """
         super().__init__("was not found")
         self.program = program
         self.remedy = remedy
         self.other = other  # a program of the same name that is another one
 
     def describe(self) -> str:
+        """What was not found, another program of its name, and the remedy."""
         other = f" ({self.other} is another program)" if self.other else ""
         return f"{self.program} was not found{other}: {self.remedy}"
 
@@ -225,6 +236,7 @@ class NotStarted(NotInstalled):
         self.tried = tried
 
     def describe(self) -> str:
+        """What could not be done with which program, and why."""
         return f"{self.program} could not be {self.tried}: {self.reason}"
 
 
@@ -236,10 +248,12 @@ class SolverFailed(BridgeError):
     """
 
     def __init__(self, solver: str, reason: str) -> None:
+        """Of the solver's title, and the reason."""
         super().__init__(reason)
         self.solver = solver
 
     def describe(self) -> str:
+        """The solver, and the reason behind a colon."""
         return f"{self.solver}: {self.reason}"
 
 
@@ -258,10 +272,14 @@ class UnusableAnswer(SolverFailed):
     """
 
     def __init__(self, solver: str, reason: str, ended_by: str = "") -> None:
+        """Of the solver's title, the reason, and the name of the signal that ended it; "" for
+        none.
+        """
         super().__init__(solver, reason)
         self.ended_by = ended_by
 
     def describe(self) -> str:
+        """The solver, the reason, and the signal that ended it where one did."""
         ended = f"; it was ended by {self.ended_by}" if self.ended_by else ""
         return f"{self.solver} gave no usable answer: {self.reason}{ended}"
 
@@ -277,6 +295,7 @@ class NotReturned(BridgeError):
     """`bridge return` does not take the solver's answer, so that there is no .sol of it."""
 
     def describe(self) -> str:
+        """The reason behind the name of the command."""
         return f"return: {self.reason}"
 
 
@@ -284,6 +303,7 @@ class DriverFault(BridgeError):
     """A fault of the drivers themselves: an exception of no other class, told by its `repr`."""
 
     def describe(self) -> str:
+        """The reason, and the option that shows where it was."""
         return f"a fault of the driver: {self.reason} (outlev=2 shows where)"
 
 
