@@ -272,8 +272,9 @@ def _explanation(model: ReadModel, source: Source) -> Explanation:
 
 
 def _sum_of_judged(model: ReadModel) -> str | None:
-    """The SHA-256 of the text that was judged (the file's own, or one made of it); None where it is
-    not known.
+    """The SHA-256 of the text that was judged: the file, or a text made of it.
+
+    None where it is not known.
     """
     if model.path == model.source.path:
         return model.source.sha256()
@@ -303,8 +304,7 @@ def solver_path(solver: str) -> str | None:
 
 
 def options_of_words(solver: str, words: Sequence[str]) -> Mapping[str, object]:
-    """Options for `solve`, of words `name=value` as a command takes them (and `pulp_solver` has
-    them).
+    """Options for `solve`, of words `name=value` as commands and PuLP's class take them.
 
     Raises:
         WrongOption: There is no such driver or option, or a text cannot be read as its value.
@@ -336,8 +336,7 @@ class OpenedModel(NamedTuple):
 
 @contextlib.contextmanager
 def opened_bridge(call: ReportedCall, bridge: str = "") -> Iterator[tuple[Bridge, Workspace]]:
-    """A block with the proved program and room for files, whose errors leave it with the call's
-    report.
+    """A block with the proved program and room for files; its errors leave it with a report.
 
     A refusal becomes the error of its exit status, an OSError a `FileFault` of reading.
 
@@ -568,8 +567,7 @@ class _Keyboard:
 
 @contextlib.contextmanager
 def _keyboard() -> Iterator[_Keyboard]:
-    """A block in which Ctrl-C ends what goes on in order: first the solver or the search, then the
-    run.
+    """A block in which Ctrl-C ends first the solver or the search, in order, and then the run.
 
     Only where Python's own handler would raise KeyboardInterrupt, and in the main thread.
     """

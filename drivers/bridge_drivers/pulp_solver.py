@@ -3,8 +3,9 @@
     from bridge_drivers.pulp_solver import BridgeCmd
     problem.solve(BridgeCmd("bridge-cbc", prove=True))
 
-PuLP writes MPS, which is judged as it stands. What is told, with what is certified, is then in `message`,
-with PuLP's names. PuLP writes 13 digits of each number; what is certified is of those numbers.
+PuLP writes MPS, which is judged as it stands. What is told, with what is certified, is then in
+`message`, with PuLP's names. PuLP writes 13 digits of each number; what is certified is of those
+numbers. The class is `BridgeCmd`; PuLP calls its methods.
 """
 
 from __future__ import annotations
@@ -188,8 +189,7 @@ class BridgeCmd(pulp.LpSolver_CMD):
         )
 
     def _options(self) -> dict[str, Any]:
-        """The arguments of `solve` beside the model and the solver; what is given as a word holds
-        against an argument.
+        """The arguments of `solve` beside model and solver; a word holds against an argument.
 
         Raises:
             WrongOption: A word is no option.
@@ -211,8 +211,9 @@ class BridgeCmd(pulp.LpSolver_CMD):
 
 
 def write_problem(lp: pulp.LpProblem, path: str) -> WrittenProblem:
-    """Writes a problem as an MPS file in free form and UTF-8, with PuLP's own names where such a
-    file can have them, else with those that PuLP makes.
+    """Writes a problem as an MPS file in free form and UTF-8.
+
+    It has PuLP's own names where such a file can have them, else those that PuLP makes.
 
     Args:
         lp: The problem.
@@ -238,8 +239,9 @@ def write_problem(lp: pulp.LpProblem, path: str) -> WrittenProblem:
 
 
 def can_be_names(names: Iterable[str]) -> bool:
-    """Whether each is one printable word of at most LONGEST_NAME bytes, as an MPS file has it, and
-    none stands twice.
+    """Whether each is one printable word of at most LONGEST_NAME bytes, and none stands twice.
+
+    An MPS file can have such names.
     """
     listed = list(names)
     return len(set(listed)) == len(listed) and all(
@@ -249,9 +251,7 @@ def can_be_names(names: Iterable[str]) -> bool:
 
 
 def in_arguments(text: str) -> str:
-    """What a driver tells, with the arguments of this class in place of its words, as
-    ARGUMENTS_BY_WORDS pairs them.
-    """
+    """What a driver tells, with arguments in place of its words (ARGUMENTS_BY_WORDS)."""
     for word, argument in ARGUMENTS_BY_WORDS:
         text = text.replace(word, argument)
     return text
@@ -272,8 +272,7 @@ def empty_interval(lp: pulp.LpProblem) -> str:
 def with_sense_and_constant(
     mps: str, objective: str, constant: float | None, *, maximise: bool
 ) -> str:
-    """PuLP's MPS text with what it leaves out: the sense, which it tells in a comment, and the
-    objective's constant.
+    """PuLP's MPS text with what it leaves out: the sense, and the objective's constant.
 
     Args:
         mps: The text.
@@ -305,9 +304,7 @@ def statuses_of(code: int, last: str = "") -> Statuses:
 
 
 def _clear_values(lp: pulp.LpProblem) -> None:
-    """Takes duals, slacks and reduced costs from a problem that another solver left: they do not
-    pass for this one's.
-    """
+    """Takes from a problem the duals, slacks and reduced costs that another solver left."""
     for variable in lp.variables():
         variable.dj = None
     for constraint in lp.constraints.values():
@@ -315,8 +312,9 @@ def _clear_values(lp: pulp.LpProblem) -> None:
 
 
 def _assign_values(lp: pulp.LpProblem, report: Report, names: Mapping[str, str]) -> None:
-    """Assigns values, slacks, duals and reduced costs in doubles, each where there are any; without
-    values each is None.
+    """Assigns values, slacks, duals and reduced costs in doubles, each where there are any.
+
+    Without values each variable's is None.
 
     Args:
         lp: The problem.

@@ -1,5 +1,4 @@
-"""`bridge-certify MODEL [option=value ..]`: a certificate of what is true of a model, and the
-verdict on it.
+"""`bridge-certify MODEL [option=value ..]`: a certificate of what is true of a model.
 
 It takes the options of its driver. `CertifyCommand` is that driver's command with other options and
 another end; nl-bridge asks it for help on options.
@@ -88,15 +87,14 @@ class CertifyCommand(DriverCommand):
         return False
 
     def message_of(self, outcome: Outcome) -> List[str]:
-        """The lines that are told, without that on the file in the workspace where the certificate
-        is printed.
-        """
+        """The lines that are told; where the certificate is printed, without that on its file."""
         stored = outcome.stored.line if outcome.stored and self.prints_certificate else None
         return [line for line in outcome.lines if line != stored]
 
     def deliver(self, outcome: Outcome) -> int:
-        """Writes and tells what is asked for as a driver does, then a line of figures with stats=1,
-        and prints the certificate where that is asked for.
+        """Writes and tells what is asked for, as a driver does.
+
+        Behind that stand figures with stats=1, and the certificate where it is to be printed.
 
         Returns:
             The exit status; where nothing is proved it is FAILED.
@@ -114,9 +112,7 @@ class CertifyCommand(DriverCommand):
         return status
 
     def failed(self, error: BridgeError) -> int:
-        """Tells why there is no outcome, and that a file at the certificate's place stays as it
-        was; the exit status.
-        """
+        """Tells why there is no outcome, and that an older certificate stays; the exit status."""
         status = super().failed(error)
         path = self.options.text("certificate")
         if os.path.isfile(path) and not self.prints_certificate:
@@ -125,11 +121,11 @@ class CertifyCommand(DriverCommand):
 
 
 def run_certify(argv: Sequence[str], console: Console) -> int:
-    """The exit status of a call: finds the option `driver=NAME` among its words, and runs the
-    command of that solver.
+    """The exit status of a call: finds the solver, and runs its command.
 
     Args:
-        argv: The words behind the command's name.
+        argv: The words behind the command's name. Of words `driver=NAME` the first counts; in
+            another form, or in the variable, the option is read and changes nothing.
         console: Where it prints.
     """
     word = next(word for word in (*argv, "driver=cbc") if word.startswith("driver="))

@@ -76,6 +76,7 @@ class CompletionTables:
     """
 
     def __init__(self) -> None:
+        """Collects the tables of all commands."""
         self.options = _options_by_command()
         self.dashed = {
             command: DASHED_OPTIONS if command != "bridge-certify" else {}
@@ -123,9 +124,7 @@ class CompletionTables:
 
 
 def _options_by_command() -> Dict[str, Mapping[str, Option]]:
-    """The options of each driver, and of bridge-certify (which has those of all), by name, by the
-    command.
-    """
+    """The options by name of each driver, and of bridge-certify, which has those of all."""
     found = {
         f"bridge-{name}": OptionValues((*COMMON_OPTIONS, *own_options(name))).known
         for name in SOLVERS

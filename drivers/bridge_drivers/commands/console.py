@@ -108,9 +108,7 @@ class Console:
         self.verdict(lines[-1])
 
     def is_coloured(self) -> bool:
-        """Whether messages go to a terminal, and its user has not said NO_COLOR
-        (https://no-color.org).
-        """
+        """Whether messages go to a terminal whose user has not said NO_COLOR (see no-color.org)."""
         stream = {Destination.OUTPUT: self._output, Destination.ERRORS: self._errors}.get(
             self.destination
         )
@@ -127,8 +125,9 @@ class Console:
     # what is no message ---------------------------------------------------------------------
 
     def output(self, text: str) -> None:
-        """Prints to standard output what was asked for, as help, a certificate or JSON, wherever
-        messages go.
+        """Prints what was asked for on standard output, as help, a certificate or JSON.
+
+        It goes there wherever messages go.
 
         Raises:
             BrokenOutput: It takes no more.
@@ -136,7 +135,7 @@ class Console:
         self._write_output(printable(text))
 
     def error(self, text: str) -> None:
-        """Prints a line to standard error, or several, wherever messages go; the last end is added."""
+        """Prints one line or several to standard error, wherever messages go, and ends the last."""
         self._write_errors(printable(text) + "\n")
 
     @contextlib.contextmanager
@@ -212,6 +211,7 @@ class ProgressLine:
         self._thread = threading.Thread(target=self._run, daemon=True)
 
     def start(self) -> None:
+        """Begins to show the progress; `stop` has to follow."""
         self._thread.start()
 
     def stop(self) -> None:
@@ -222,8 +222,9 @@ class ProgressLine:
             self._write(CLEAR_LINE)
 
     def _run(self) -> None:
-        """Shows the progress from time to time until the end, in its own thread; nothing between
-        two stages.
+        """Shows the progress from time to time until the end, in its own thread.
+
+        Between two stages nothing is shown.
         """
         wait = FIRST_SECONDS if self.in_place else LINE_SECONDS
         while not self._has_ended.wait(wait):
@@ -232,7 +233,7 @@ class ProgressLine:
             wait = EVERY_SECONDS if self.in_place else LINE_SECONDS
 
     def _show(self, line: str) -> None:
-        """Shows one state of the progress: a line without its end, cut to the width of a terminal."""
+        """Shows one state of the progress: a line without its end, cut to a terminal's width."""
         if self.in_place:  # in the last column a terminal would begin another line
             self._write(CLEAR_LINE + cut_to_width(line, columns_of(self.stream) - 1))
             self._is_shown = True
@@ -267,9 +268,7 @@ class _LogHandler(logging.Handler):
 
 
 def colour_of(verdict: str) -> Colour:
-    """The colour of a verdict's line: green what is settled, yellow what is known in part, red what
-    is not proved.
-    """
+    """The colour of a verdict: green if settled, yellow if known in part, red if not proved."""
     statement = statement_of(verdict)
     if statement is None:
         return Colour.SETTLED if verdict.startswith(PROVED) else Colour.NOT_PROVED

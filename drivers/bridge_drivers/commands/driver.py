@@ -105,6 +105,7 @@ class DriverCommand:
     shows_short_table = True  # values are shown, where they are few, that nobody asked for
 
     def __init__(self, solver: str, console: Optional[Console] = None) -> None:
+        """Begins with the options of the solver, of which nothing was said, and without words."""
         self.solver = SOLVERS[solver]
         self.name = "bridge-" + solver
         self.options = self._new_options()
@@ -217,8 +218,7 @@ class DriverCommand:
             self.source = missing_source(word)
 
     def take_options(self) -> None:
-        """Reads the options, of the variable and of the words, and tells them where that is asked
-        for.
+        """Reads the options of the variable and of the words; tells them where that is asked for.
 
         An older .sol goes once the model can be read, before anything else can go wrong: it must
         not pass for that of this call.
@@ -258,8 +258,9 @@ class DriverCommand:
         return self.call.is_ampl or self.call.saves or wanted
 
     def _work(self) -> Outcome:
-        """The outcome; what goes on is shown meanwhile, on standard error and with outlev among the
-        messages.
+        """The outcome.
+
+        What goes on is shown meanwhile on standard error, and with outlev among the messages.
 
         Raises:
             BridgeError: There is no model, or no outcome.
@@ -313,8 +314,10 @@ class DriverCommand:
         return outcome.lines
 
     def _tell(self, outcome: Outcome) -> None:
-        """Prints the message, unless -AMPL or `wantsol` forbids it, the numbers that are wanted,
-        and with outlev=2 the seconds. With failexit=1 MiniZinc's user is told the verdict.
+        """Prints the message, the numbers that are wanted, and with outlev=2 the seconds.
+
+        With -AMPL the message is printed only for failexit=1, and with 8 in `wantsol` never. With
+        failexit=1 MiniZinc's user is told the verdict.
         """
         fails_by_status = self.options.flag("failexit")
         is_silent = bool(self.options.number("wantsol") & NO_MESSAGE)
@@ -333,8 +336,7 @@ class DriverCommand:
 
     @staticmethod
     def _words_for_minizinc(outcome: Outcome, lines: Sequence[str]) -> str:
-        """What MiniZinc's user is told: the verdict, and with code 100 before it the message's
-        first line.
+        """What MiniZinc's user is told: the verdict, with code 100 behind the message's first line.
 
         Args:
             outcome: What was found.

@@ -74,8 +74,9 @@ class CommandForm(NamedTuple):
     example: str = ""
 
     def names(self, count: int) -> List[List[str]]:
-        """What so many words behind the command are called, in each way: none, or once or twice a
-        list of `count` names.
+        """What so many words behind the command are called.
+
+        There may be no way, one, or two; each is a list of `count` names.
 
         Args:
             count: Of the words, options aside.
@@ -238,9 +239,7 @@ def forms_of(word: str) -> List[CommandForm]:
 
 
 def options_of(word: str) -> List[str]:
-    """What may stand behind a command beside files, in any of its forms: the first words of
-    options, sorted.
-    """
+    """What may stand behind a command beside files, in any form: options' first words, sorted."""
     return sorted({option.first_word for form in forms_of(word) for option in form.options})
 
 

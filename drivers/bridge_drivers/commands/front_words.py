@@ -110,8 +110,9 @@ def _take_option(call: FrontCall, word: str, left: List[str]) -> bool:
 
 
 def _take_page(call: FrontCall, word: str, left: List[str]) -> None:
-    """Takes the place of a page, of `--html FILE` or `--html=FILE`; the next word stands at the end
-    of `left`.
+    """Takes the place of a page: `--html FILE` or `--html=FILE`.
+
+    The next word stands at the end of `left`.
 
     Raises:
         WrongWords: There is no next word.
@@ -125,8 +126,9 @@ def _take_page(call: FrontCall, word: str, left: List[str]) -> None:
 
 
 def _check_options(call: FrontCall) -> None:
-    """Raises WrongWords where the command does not take an option that was said; with help any will
-    do.
+    """Raises WrongWords where the command does not take an option that was said.
+
+    With help any will do.
     """
     said = [forms.JSON.words] if call.wants_json else []
     if call.overwrites:

@@ -149,7 +149,7 @@ def _help_on(topic: str) -> str:
 
 
 def _driver_help_on(topic: str) -> str:
-    """The help of a driver, or on an option that one has; "" where it is neither."""
+    """The help of a driver, or on an option that `_any_driver` has; "" where it is neither."""
     name = topic.removeprefix("bridge-")
     if topic != name and name in SOLVERS:
         return DriverCommand(name).help_text(HelpKind.HELP)
@@ -160,7 +160,10 @@ def _driver_help_on(topic: str) -> str:
 
 
 def _any_driver() -> DriverCommand:
-    """A command of bridge-certify: it has the common options, its own, and those of the first solver."""
+    """A command of bridge-certify.
+
+    It has the common options, its own, and those of the first solver.
+    """
     return CertifyCommand(next(iter(SOLVERS)))
 
 
@@ -215,8 +218,9 @@ def _print_failure(call: FrontCall, report: Report, console: Console) -> int:
 
 
 def _explained(call: FrontCall) -> Report:
-    """The report of `explain`: on a call of another command, on a model alone or with an
-    objective's number (as `export` takes it), or on a certificate.
+    """The report of `explain` on a call of another command, on a model, or on a certificate.
+
+    A model may stand with an objective's number, as `export` takes it.
 
     Raises:
         BridgeError: The call or the model is refused, or a file cannot be read.
@@ -282,8 +286,7 @@ def _toolchain_words(facts: Mapping[str, str]) -> str:
 
 
 def _imported(call: FrontCall) -> Report:
-    """The report of `import FILE NL`: an MPS text is written into an .nl file, with its names
-    beside it.
+    """The report of `import FILE NL`: an MPS text is written as an .nl file, names beside it.
 
     Raises:
         BridgeError: It is refused, or a file cannot be read or written.
@@ -321,8 +324,7 @@ REPORTS: Mapping[str, Callable[[FrontCall], Report]] = {
 
 
 def _plain_files(workspace: Workspace, words: Sequence[str]) -> List[str]:
-    """The words behind a command of the proved program, with its files as plain ones that it can
-    read.
+    """The words behind a command of the proved program, files as plain ones that it can read.
 
     Args:
         workspace: Where copies are made; it has to outlive the call.
@@ -389,8 +391,7 @@ def _pass_on(place: Sequence[str], words: Sequence[str], console: Console) -> in
 def _run_proved_program(
     place: Sequence[str], call: Sequence[str], words: Sequence[str], console: Console
 ) -> int:
-    """Runs the proved program and passes on what it writes; its exit status, below 0 after a
-    signal.
+    """Runs the proved program and passes on what it writes; its status, below 0 after a signal.
 
     A verdict is in colour on a terminal, and a file that cannot be read is told with its cause.
 

@@ -1,5 +1,4 @@
-"""The options of the drivers as words: what each may be, what it is where nothing is said, and its
-help.
+"""The options of the drivers as words: what each may be, its default, and its help.
 
 `driver` and `certify` read their words by an `OptionValues`, whose settings
 `pipeline.option_values` makes; `completion` and the help of nl-bridge have the tables.
@@ -93,8 +92,9 @@ def choice(*known: str) -> AnyText:
 
 
 def whole_numbers(low: int, high: float = math.inf) -> NumberRange:
-    """The kind of whole numbers from one to another, both included; up to MOST_LISTED of them are
-    listed one by one.
+    """The kind of whole numbers from one to another, both included.
+
+    Up to MOST_LISTED of them are listed one by one.
     """
     if high - low < MOST_LISTED:
         known = [str(number) for number in range(low, int(high) + 1)]
@@ -361,8 +361,9 @@ class OptionValues:
             self.take(words)
 
     def put(self, name: str, value: Value) -> None:
-        """Sets what an option is from now on, whatever was said; it counts as given, and is not
-        told.
+        """Sets what an option is from now on.
+
+        It counts as given, and is not told.
         """
         self._given[name] = value
 

@@ -84,8 +84,9 @@ def parse_driver_call(argv: Sequence[str]) -> DriverCall:
 
 
 def _take_plain_words(call: DriverCall, left: List[str]) -> None:
-    """Takes all words that are left, in which nothing begins with `-`: the model, where there is
-    none yet, and options.
+    """Takes all words that are left, in which nothing begins with `-`.
+
+    The first is the model, where there is none yet, the others say options.
 
     Args:
         call: Is told of them.
@@ -100,9 +101,7 @@ def _take_plain_words(call: DriverCall, left: List[str]) -> None:
 
 
 def _take_flag(call: DriverCall, word: str) -> bool:
-    """Whether a word is one of the three that modelling systems say (-AMPL, -s, -e); it is noted in
-    `call`.
-    """
+    """Whether a word is one of modelling systems' three (-AMPL, -s, -e); it is noted in `call`."""
     if word == "-AMPL":
         call.is_ampl = True
     elif word == "-s":

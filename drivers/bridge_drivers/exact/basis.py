@@ -441,9 +441,10 @@ def _dual_residual(
 
 
 def _fixed_point(value: float, shift: int = 0) -> int:
-    """The double times 2 to the power of `-shift`, as a whole number over 2**PRECISION_BITS.
+    """`value / 2**shift`, as a whole number over 2 to the power of PRECISION_BITS.
 
-    It is exact but for what lies below the last binary place, which is rounded down.
+    It is exact but for what lies below the last binary place, which is rounded down. The shift is
+    at most PRECISION_BITS.
     """
     numerator, denominator = value.as_integer_ratio()
     return (numerator << PRECISION_BITS - shift) // denominator

@@ -48,8 +48,8 @@ def certify(
 ) -> Evidence:
     """What can be proved of a program, beginning with what a solver said of it.
 
-    While it works, and afterwards no more, the time of all exact work of this thread and of all
-    solves of CLP is limited.
+    While it works, the time of all exact work of this thread and of all solves of CLP is limited;
+    at its end that limit is lifted.
 
     Args:
         judge: Is given certificates, and says what each of them proves.
@@ -100,16 +100,16 @@ class Certifier:
         self.integer = IntegerCertifier(task, self.refuter, self.linear)
 
     def certify(self, claim: AnswerClaim) -> Evidence:
-        """Tries what fits the claim, within the deadline; the front of all that is below.
+        """Tries what fits the claim, within the deadline of the task.
 
-        Where the time is over, what is known by then is claimed, and `may_be_unbounded` is said of
-        it. Where CLP is not installed or a search ended, that is the reason why nothing is proved.
+        Where the time is over, what is known by then is claimed instead, with `may_be_unbounded`.
+        Where CLP is not installed or a search ended, that is the reason why nothing is proved.
         """
         try:
             limit_all_work(Deadline(self.task.deadline.left_to_find()))
             return self._tried(claim)
         except (TimeOver, DeadlineExceeded):
-            found = self._with_bound_in_doubles(first_proved(self._known()))
+            found = self._with_optimality_in_doubles(first_proved(self._known()))
             return found._replace(may_be_unbounded=self.refuter.may_be_unbounded())
         except (ClpNotInstalled, SearchEnded) as ended:
             return not_proved(ended)
@@ -124,7 +124,7 @@ class Certifier:
         if self.task.is_linear:
             return first_proved(self.linear.certify(self.task.answer))
         if self.task.options.is_relaxation:
-            return first_proved(self._bounds())
+            return first_proved(self._without_answer())
         values = self.task.answer.values
         assert values is not None, "a claim of a point has its values"
         return self.integer.certify_answer(values)
@@ -139,7 +139,7 @@ class Certifier:
         Of an integer program, unless its relaxation is meant, a disjunction that refutes it comes
         first, and with `proves` a tree that does, or what follows from a point found by it.
         """
-        tried = [self._bounds()]
+        tried = [self._without_answer()]
         if not self.task.is_linear and not self.task.options.is_relaxation:
             refutations = self.refuter.rounding_refutations()
             proves = self.task.options.proves
@@ -160,7 +160,7 @@ class Certifier:
         options, is_linear = self.task.options, self.task.is_linear
         if first.is_proved or options.is_relaxation and not is_linear:
             return first
-        tried = self._bounds()
+        tried = self._without_answer()
         has_box_bound = box_bound(self.task.program) is not None
         if not is_linear and (options.proves or has_box_bound):
             tried = itertools.chain(self.refute(), tried)
@@ -180,7 +180,10 @@ class Certifier:
         return self.refuter.refute(self._certify_from_point)
 
     def _tried(self, claim: AnswerClaim) -> Evidence:
-        """What the way that fits the claim finds, with no heed to errors and the end of time."""
+        """What is found in the way that fits the claim.
+
+        Errors, and the end of the time, are left to `certify`.
+        """
         ways: Mapping[AnswerClaim, Callable[[], Evidence]] = {
             AnswerClaim.POINT: self.certify_point,
             AnswerClaim.INFEASIBLE: self.certify_infeasible,
@@ -204,7 +207,7 @@ class Certifier:
         found = first_proved(self.refuter.rounding_refutations())
         return found if found.is_proved else self.refuter.certify_ray()
 
-    def _bounds(self) -> Iterator[Evidence]:
+    def _without_answer(self) -> Iterator[Evidence]:
         """What can be said without an answer's point: of an integer program mostly a bound.
 
         Of a linear program all that is tried for an answer. Then come claims of what is stored, the
@@ -259,7 +262,7 @@ class Certifier:
         sign = self.task.program.sign
         return {row: float(sign * dual) for row, dual in (self.task.answer.duals or {}).items()}
 
-    def _with_bound_in_doubles(self, evidence: Evidence) -> Evidence:
+    def _with_optimality_in_doubles(self, evidence: Evidence) -> Evidence:
         """The evidence, with what the answer's own duals say in doubles; no proof rests on that.
 
         Where they bound the objective at the answer's point, `is_optimal_in_doubles` and the note

@@ -67,7 +67,7 @@ def knapsack_rows(program: IntegerProgram) -> Iterator[KnapsackRow]:
     """The sides of rows over their binary literals, by row, the upper side first.
 
     Left out are sides without a bound or that no point within the columns' bounds satisfies, sides
-    of which other columns take without end, and rows of more than MOST_ROW_ENTRIES entries.
+    whose activity has no least value there, and rows of more than MOST_ROW_ENTRIES entries.
     """
     for row, lower, upper in zip(program.rows, program.row_lower, program.row_upper):
         if len(row) > MOST_ROW_ENTRIES:
@@ -90,7 +90,10 @@ def knapsack_rows(program: IntegerProgram) -> Iterator[KnapsackRow]:
 def conflict_graph(program: IntegerProgram) -> Dict[Literal, Set[Literal]]:
     """By literal, those that one row excludes beside it: `weight + other weight > capacity`.
 
-    Literals without a conflict are not named. Raises TimeOver, between rows.
+    Literals without a conflict are not named.
+
+    Raises:
+        TimeOver: Between two rows: the time of exact work is over.
     """
     found: Dict[Literal, Set[Literal]] = {}
     for items, capacity in knapsack_rows(program):

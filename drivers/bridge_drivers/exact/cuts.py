@@ -46,7 +46,7 @@ Cut = Union[CliqueCut, MIRCut]
 
 
 class CutKind(enum.Enum):
-    """The separators of cuts."""
+    """By which separator a cut is found; a strategy of the `portfolio` has a set of these."""
 
     MIR = "mir"
     CLIQUE = "clique"

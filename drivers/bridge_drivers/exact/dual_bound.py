@@ -68,7 +68,7 @@ class Multipliers(NamedTuple):
         )
 
     def reduced(self) -> Multipliers:
-        """The same over the least denominator."""
+        """The same multipliers over their least common denominator."""
         common = math.gcd(self.denominator, *self.numerators.values())
         if common == 1:
             return self
@@ -126,7 +126,7 @@ def needed_row_bound(program: IntegerProgram, row: int, multiplier: float | Frac
 
 
 def has_needed_bound(program: IntegerProgram, row: int, multiplier: float | Fraction) -> bool:
-    """Whether a row has the bound that a multiplier of this sign rests on; 0 rests on none."""
+    """Whether a row has the bound that a multiplier of this sign rests on; 0 needs none."""
     return multiplier == 0 or needed_row_bound(program, row, multiplier) is not None
 
 
@@ -252,7 +252,7 @@ def row_residuals(program: IntegerProgram, x: Sequence[float]) -> Optional[List[
 
 
 def violation(value: float, lower: Optional[float], upper: Optional[float]) -> float:
-    """How far a value is beyond its bounds: below 0 where it is below, 0 within."""
+    """How far a value is beyond its bounds, with a sign: below 0 under the lower one, 0 within."""
     if lower is not None and value < lower:
         return value - lower
     if upper is not None and value > upper:

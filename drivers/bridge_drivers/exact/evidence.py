@@ -312,7 +312,8 @@ class EvidenceStore:
         """`optimal`, by a point and duals that are exact and of the same value.
 
         Nothing is claimed where one of their numbers has more than CERTIFICATE_BITS. Sets `note` in
-        each case: to that, or to what the judge said behind its first colon.
+        each case: to that, or to what the judge's line says behind its first colon, as its reason
+        against `optimal`.
         """
         duals = (Fraction(y, leaf.denominator) for y in leaf.numerators.values())
         bits = bit_width([*point, *duals])

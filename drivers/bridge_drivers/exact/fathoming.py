@@ -213,7 +213,7 @@ class Fathomer:
         """
         program = self.program
         kept, surplus = self._without_needless_bounds(proof)
-        box = Box(*(self._own_unless(kept, is_upper) for is_upper in (0, 1)))
+        box = Box(*(self._kept_bounds(kept, is_upper) for is_upper in (0, 1)))
         proof = self.prover.sparsified(proof._replace(surplus=surplus), box)
         added = (row for row in proof.multipliers.numerators if row >= program.constraint_count)
         depths = {use.depth for use in self._bounds_used(proof)}
@@ -247,7 +247,7 @@ class Fathomer:
                 kept.discard(depth)
         return kept, surplus
 
-    def _own_unless(self, kept: set[int], is_upper: int) -> List[Optional[int]]:
+    def _kept_bounds(self, kept: set[int], is_upper: int) -> List[Optional[int]]:
         """Bounds by column, over `bound_scale`: the node's where a kept branch gave it, else the
         file's own.
 

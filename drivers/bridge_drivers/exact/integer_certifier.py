@@ -80,14 +80,12 @@ class IntegerCertifier:
         return first_proved(self.certify_from_point(point))
 
     def certify_from_point(self, point: Point) -> Iterator[Evidence]:
-        """A ray, else a tree at the value of a point, then of each better one that is found.
+        """What is proved from a feasible point, the strongest first.
 
-        Where there is no tree, what the relaxation proves in fractions, and the strongest claims of
-        the points and the bound in the store; at last why there is no more. Sets what
-        `_search_from` sets.
-
-        Args:
-            point: Feasible.
+        That is `unbounded` by a ray; `optimal` where bounds of columns alone show it, or by a tree
+        at the best point that the searches find; what the relaxation proves in fractions; the
+        claims of the points and the bound in the store. At last it says why there is no more. Adds
+        the point, and better ones, to the store, and sets what `_search_from` sets.
         """
         program, store = self.program, self.store
         store.add_point(point)
@@ -220,9 +218,9 @@ class IntegerCertifier:
     def _without_exact_point(self, x: Sequence[Number], violation: Fraction) -> Evidence:
         """Where no exact point has the answer's integer columns: a refutation, or what is found.
 
-        A claim of a point that is worse than the answer does not take the answer's place, unless
-        the point is optimal or the answer is contradicted: then the reason why the answer is not
-        proved is told, with `contradicts_answer`.
+        A claim of a point that is worse than the answer does not take the answer's place, unless it
+        is `optimal` or the answer is contradicted. Where nothing takes it, the answer comes back as
+        not proved, with the reason and with `contradicts_answer`.
 
         Args:
             x: The answer's values by column.
@@ -258,9 +256,9 @@ class IntegerCertifier:
         """
         if self.task.options.proves or self.is_answer_contradicted or not violation:
             return self.refuter.refute(self.certify_from_point)
-        are_integers = self.program.row_scale == self.program.bound_scale == 1
+        has_whole_numbers = self.program.row_scale == self.program.bound_scale == 1
         refutations: Iterator[Evidence] = iter(())
-        if are_integers:
+        if has_whole_numbers:
             refutations = self.refuter.rounding_refutations()
         at_last = self.refuter.by_relaxation_at_last()
         optimal = (evidence for evidence in at_last if evidence.claim == "optimal")

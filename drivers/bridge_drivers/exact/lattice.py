@@ -65,6 +65,10 @@ class LLLReduction:
     """
 
     def __init__(self, vectors: Matrix) -> None:
+        """
+        Args:
+            vectors: All of the same length; they are copied.
+        """
         every = range(len(vectors))
         self.basis = [list(vector) for vector in vectors]
         self.coordinates = [[int(i == j) for j in every] for i in every]
@@ -78,6 +82,9 @@ class LLLReduction:
         Returns:
             False where the vectors depend on each other, or it takes more than MOST_STEPS: then the
             basis is not reduced.
+
+        Raises:
+            TimeOver: The time of exact work is over.
         """
         d, products = self.determinants, self.products
         if not all(map(self._orthogonalize, range(len(self.basis)))):
@@ -238,11 +245,14 @@ def reduced_modulo(form: Form, equations: Sequence[Form]) -> Form:
     """A form that has the same width as this one, with smaller coefficients.
 
     Whole multiples of equations, whose value is fixed, are taken away as long as that makes it
-    shorter, in MOST_ROUNDS rounds at most. `check_work` may end it.
+    shorter, in MOST_ROUNDS rounds at most.
 
     Args:
         form: By column.
         equations: The left sides of equations, by column.
+
+    Raises:
+        TimeOver: The time of exact work is over.
     """
     for _ in range(MOST_ROUNDS):
         check_work()

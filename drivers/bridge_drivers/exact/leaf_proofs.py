@@ -56,7 +56,8 @@ class LeafProof(NamedTuple):
     Attributes:
         multipliers: What stands in the certificate.
         reduced_costs: By column, in the units of `DualBound.reduced_costs`.
-        surplus: What the bound has over the cutoff, at least 0, in the same units.
+        surplus: What the bound has over the cutoff, at least 0, in the units of
+            `DualBound.numerator`; of Farkas multipliers, over the least bound that is above 0.
     """
 
     multipliers: Multipliers
@@ -89,6 +90,7 @@ class LeafProver:
 
         Args:
             multipliers: Each row has the bound that the sign of its multiplier needs.
+            box: Bounds of columns, over `bound_scale`.
 
         Returns:
             None where the exact bound does not reach the cutoff, or is not finite.
@@ -106,6 +108,7 @@ class LeafProver:
 
         Args:
             values: By row, minimised; those up to ZERO_MULTIPLIER in size count as 0.
+            box: Bounds of columns, over `bound_scale`.
 
         Returns:
             None where no rounding proves it, and of Farkas multipliers where all are 0.
@@ -133,6 +136,7 @@ class LeafProver:
         Args:
             values: By row, minimised; None: there are none. Those whose row lacks the bound that
                 they need count as 0.
+            box: Bounds of columns, over `bound_scale`.
 
         Returns:
             None where there are none, where they do not prove it, or where they are too wide for a

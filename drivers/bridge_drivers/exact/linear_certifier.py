@@ -101,6 +101,10 @@ class LinearCertifier:
 
         The store's note is set where that is found to be too wide. Nothing is tried where there is
         a note already.
+
+        Args:
+            bases: Each with values by column that are near its own: they say at which of two bounds
+                a column or row stands that is not basic.
         """
         if self.store.note:
             return
@@ -149,8 +153,8 @@ class LinearCertifier:
     def _by_short_numbers(self, clp: Optional[Clp]) -> Iterator[Evidence]:
         """`within` by a point and a bound in short numbers, then what is known at last.
 
-        Where no point is known, a refutation is tried, and what follows from a point that its search
-        finds. Each claim has the store's note, which says why it is not `optimal`.
+        Where no point is known, a refutation is tried, and what follows from a point that it finds.
+        Each claim has the store's note, which says why it is not `optimal`.
 
         Args:
             clp: The relaxation at its optimum; None: it has none.
@@ -189,7 +193,12 @@ class LinearCertifier:
         self, answer: AnswerByPlace, clp: Optional[Clp]
     ) -> Iterator[Optional[Point]]:
         """Feasible points near the answer, else the vertex of its basis; then CLP's vertex, and
-        points near CLP's values. None stands for a vertex that is not feasible."""
+        points near CLP's values. None stands for a vertex that is not feasible.
+
+        Args:
+            answer: Without values: nothing is tried of it.
+            clp: The relaxation at its optimum; None: it has none.
+        """
         program, is_near = self.program, False
         if answer.values is not None:
             for point in points.nearby_points(program, answer.values):
@@ -209,6 +218,7 @@ class LinearCertifier:
 
         Args:
             value: The objective of a feasible point, minimised.
+            clp: The relaxation at its optimum; None: it has none.
         """
         prover = LeafProver(self.program, value)
         if not any(self.program.costs):
@@ -224,6 +234,7 @@ class LinearCertifier:
 
         Args:
             prover: With the value that the bound must reach.
+            clp: The relaxation at its optimum.
         """
         dual, box = MultiplierKind.DUAL, self._box()
         proof = prover.prove_from_doubles(dict(enumerate(clp.duals())), dual, box)

@@ -204,7 +204,7 @@ class Elimination(IntegerRows):
         return unknown, self.eliminate(name, unknown)
 
     def _store(self, name: int, row: IntegerRow) -> None:
-        """The same, with its length; a row that says 0 = 0 falls away.
+        """The same, in `names_by_length` too; a row that says 0 = 0 falls away.
 
         Raises:
             InconsistentSystem: The row has no unknown, but a right-hand side.
@@ -221,6 +221,7 @@ class Elimination(IntegerRows):
         self.names_by_length[length].add(name)
 
     def _remove(self, name: int) -> IntegerRow:
+        """The same, out of `names_by_length` too."""
         row = super()._remove(name)
         self.names_by_length[_count_of_unknowns(row)].discard(name)
         return row
@@ -421,6 +422,11 @@ class _Lifting:
     """
 
     def __init__(self, system: LiftedSystem, rhs: Sequence[int], *, is_transposed: bool) -> None:
+        """
+        Args:
+            rhs: By equation, each below EXACT_DOUBLE_LIMIT in size.
+            is_transposed: The unknowns are the x of x A = b, not of A x = b.
+        """
         self.system = system
         self.is_transposed = is_transposed
         self.rhs = rhs

@@ -86,7 +86,10 @@ class Substitutions(Dict[int, Optional[Substitution]]):
         return self[place]
 
     def _from_nearest_bound(self, place: int) -> Optional[Substitution]:
-        """From the bound that x is nearer to, the lower one where both are as near."""
+        """The substitution from the bound that x is nearer to (the lower of equals).
+
+        Its value is 0 where x is beyond that bound. None where there is no bound to count from.
+        """
         scale, value = self.program.bound_scale, self.x[place]
         row = place - self.program.n
         lower, upper, is_integer = self._column(place) if row < 0 else self._row(row)
@@ -129,7 +132,7 @@ class _Interval(NamedTuple):
 
 
 def _integral(bound: Bound, scale: int) -> Bound:
-    """A bound that is a whole number; None of another one."""
+    """A bound over `scale` if it is a whole number; None if it is not, or not there."""
     return None if bound is None or bound % scale else bound
 
 
@@ -250,7 +253,7 @@ def mir_cut(
 
 
 def _over_one_denominator(combination: Combination) -> Tuple[int, Dict[int, int]]:
-    """Short fractions near the multipliers: their denominator, and numerators by row; some may be 0."""
+    """Short fractions near the multipliers: their one denominator, and numerators by row."""
     ratios = {row: last_convergent(v, LARGEST_DENOMINATOR) for row, v in combination.items()}
     common = lcm(*(denominator for _, denominator in ratios.values()))
     if common > LARGEST_DENOMINATOR:

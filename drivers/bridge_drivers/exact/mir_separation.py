@@ -250,8 +250,8 @@ class MIRSeparator:
     def aggregations(self) -> Iterator[Combination]:
         """Combinations of rows: each row alone, and sums of rows that begin with it.
 
-        It has the multiplier 1 where it has an upper bound, and -1 where it has a lower one. That
-        its activity counts from the nearer one is left to the substitution.
+        The first row has the multiplier 1 where it has an upper bound, and -1 where it has a lower
+        one; from which bound its activity counts is left to the substitution.
         """
         for row in range(self.program.m):
             for sign, bound in (
@@ -266,6 +266,9 @@ class MIRSeparator:
 
         That is the one that is farthest from its bounds. At most MOST_AGGREGATED_ROWS rows are in a
         sum, without those of variable bounds, which are added to each as it is yielded.
+
+        Args:
+            combination: One row, with the multiplier 1 or -1.
         """
         for _ in range(MOST_AGGREGATED_ROWS):
             total = aggregated(self.program, combination, 1 / self.program.row_scale)

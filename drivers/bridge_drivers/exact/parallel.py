@@ -72,8 +72,8 @@ class ParallelSearch:
     """One search, which this process begins and a pool goes on with, where there is one.
 
     Attributes:
-        search: What this process works; it also closes what is left for a bound. Its `nodes` are
-            those of the whole tree so far.
+        search: What this process works; it also closes what is left for a bound. Its `nodes` count
+            the whole tree so far, with proved subtrees that fell away when others were joined.
         branches: By place, the branching nodes between the root and the subtrees; the direction of
             each counts nothing.
         proved: By place, subtrees that are proved; all of the tree is at "".
@@ -310,8 +310,8 @@ class ParallelSearch:
         return False
 
     def _close(self, place: str, proved: ProvedSubtree) -> None:
-        """Enters in `proved` a subtree, which waits no more, joined upwards as far as its siblings
-        are proved.
+        """Puts a proof into `proved`: of the subtree at this place, which waits no more, joined
+        upwards as far as siblings are proved.
 
         A branch that a proof does not rest on falls away: then it proves the node above too. What
         stands at and below each node that is proved so is dropped, also where it is worked.

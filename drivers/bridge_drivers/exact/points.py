@@ -57,7 +57,8 @@ class BasicSystem(NamedTuple):
 
 
 def basic_system(program: IntegerProgram, basis: Basis, x: Sequence[float]) -> BasicSystem:
-    """The equations of a basis, for its vertex and for the points of `basis`.
+    """The equations of a basis, which `vertex` solves, and for large programs
+    `basis.exact_optimum`.
 
     Args:
         basis: As CLP or a solver gives it; it need not be complete.
@@ -136,11 +137,12 @@ def vertex(program: IntegerProgram, basis: Basis, x: Sequence[float]) -> Optiona
 
 
 def nearby_points(program: IntegerProgram, x: Sequence[Number]) -> Iterator[Point]:
-    """Feasible points of short fractions near x, the shortest first.
+    """Yields feasible points of short fractions near x: with values at bounds first, and of each
+    kind the shortest first.
 
     Where x is in fractions and feasible it is the only one. Integer columns are rounded. Values
-    within NEAR_BOUND of a bound are first taken for the bound; then all is tried again without
-    that. No value is moved by more than NEAR_POINT.
+    within NEAR_BOUND of a bound are taken for the bound; then all is tried again without that. No
+    value is moved by more than NEAR_POINT.
 
     Raises:
         TimeOver: The time of exact work is over, before the next is tried.

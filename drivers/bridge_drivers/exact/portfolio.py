@@ -517,10 +517,9 @@ class Portfolio:
         """Makes some seconds of cuts below those that are there: the ones made before, else those
         of the strategy with MIR cuts.
 
-        They are done when the loop ends by itself, when they are in vain, or when they close so
-        much of the gap that the rest will be short. Then their strategy begins, where they close at
-        least LEAST_CLOSED_SHARE of the gap or there is no value to see that by, and the next is
-        prepared.
+        They are done when the loop ends by itself, when they are in vain, or when they close half
+        of the gap (by SHARE_OF_REST). Then their strategy begins, where they close at least
+        LEAST_CLOSED_SHARE of the gap or there is no value to see that by, and the next is prepared.
 
         Args:
             name: The strategy's, whose kinds of cuts are made.

@@ -269,8 +269,8 @@ class RationalSimplex(IntegerRows):
         return SimplexResult(LpStatus.INFEASIBLE, None, self._of_rows(shares))
 
     def _optimum(self, prices: Dict[int, Fraction]) -> SimplexResult:
-        """OPTIMAL, with the duals: they are the prices of rows, from the scales of objective and
-        rows in the program's own units."""
+        """OPTIMAL, with the duals: the prices of rows, turned from the scales of objective and rows
+        into the program's own units."""
         scale = Fraction(self.program.row_scale, self.program.cost_scale)
         duals = {i: price * scale for i, price in self._of_rows(prices).items()}
         return SimplexResult(LpStatus.OPTIMAL, self._point(), duals)
@@ -294,7 +294,7 @@ class RationalSimplex(IntegerRows):
 
 def _comes_before(test: RatioTest, other: RatioTest) -> bool:
     """Whether a ratio test wins over another: by the smaller step, of equal ones by the first
-    leaving variable. That a bound is met without a pivot comes behind variables that leave."""
+    leaving variable. One without a leaving variable comes behind those that have one."""
     if test.step != other.step:
         return test.step < other.step
     return other.leaving is None or (test.leaving is not None and test.leaving < other.leaving)

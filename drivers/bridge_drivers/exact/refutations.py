@@ -148,7 +148,11 @@ class Refuter:
 
     def ray_of_point(self, point: Optional[Point]) -> Iterator[Evidence]:
         """Yields that the objective has no bound, by a known point and a ray. Such is looked for
-        wherever a point but no bound is known."""
+        wherever a point but no bound is known.
+
+        Raises:
+            SearchEnded: The time ended in the simplex method in fractions.
+        """
         if point is None or self.store.bound is not None:
             return
         ray = self.find_ray()
@@ -156,10 +160,11 @@ class Refuter:
             yield self.store.claim_of_ray(point, ray)
 
     def find_ray(self) -> Optional[Point]:
-        """A ray of the program in its own units, whatever its gain is; of a small program by the
-        simplex method in fractions. Integer marks count nothing.
+        """A ray of the program, by column in its own units, however little it improves. CLP looks
+        for it first, then of a small program the simplex method in fractions. Integer marks count
+        nothing.
 
-        Sets `has_sought_ray`.
+        Sets `has_sought_ray` when it comes to its end.
 
         Returns:
             None where columns' bounds say that there is none, at once, or none is found.

@@ -184,7 +184,8 @@ class WorkerPool:
         self.stop()
 
     def executor(self) -> Executor:
-        """That which takes the units; pools start it when it is first asked for."""
+        """That which takes the units; a `ProcessPool` starts it when it is first asked for, a
+        `DaskPool` has it from the beginning."""
         assert self._started is not None
         return self._started
 
@@ -195,7 +196,7 @@ class WorkerPool:
             The future of what `work` returns or raises.
 
         Raises:
-            PoolFailed: None can be started.
+            PoolFailed: No process can be started (`ProcessPool`).
         """
         try:
             return self.executor().submit(work, unit)
@@ -227,7 +228,12 @@ class ProcessPool(WorkerPool):
         return self._started
 
     def submit(self, unit: WorkUnit) -> Future[UnitResult]:
-        """As of any pool; a fault of the system in starting a process is a PoolFailed."""
+        """Gives a unit to a process, as `WorkerPool.submit` does; signals wait while processes
+        start.
+
+        Raises:
+            PoolFailed: The system starts no process.
+        """
         with signals_blocked():  # a process begins with them blocked
             try:
                 return super().submit(unit)

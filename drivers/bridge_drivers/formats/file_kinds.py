@@ -1,6 +1,8 @@
 """What a file is, by its first bytes and by its name, and what takes it.
 
-Each test of first bytes looks at each byte a bounded number of times: the file may be anyone's.
+`ModelKind` and `Packing` are what commands read, `FileKind` all else, with the help that a message
+has for it. Each test of first bytes looks at each byte a bounded number of times: the file may be
+anyone's.
 """
 
 from __future__ import annotations
@@ -42,10 +44,12 @@ class Packing(enum.Enum):
 
     @property
     def end(self) -> str:
+        """The end of a packed file's name, with its dot."""
         return self.value[0]
 
     @property
     def mark(self) -> bytes:
+        """The first bytes of a packed file."""
         return self.value[1]
 
     def unpack(self, packed: BinaryIO) -> BinaryIO:
@@ -154,7 +158,11 @@ def is_mps_start(start: bytes) -> bool:
 
 
 def is_lp_start(start: bytes) -> bool:
-    """Whether a text's first word behind comments and empty lines is a sense of LP."""
+    """Whether a text's first word behind comments and empty lines is a sense of LP.
+
+    Args:
+        start: The first bytes, unpacked; one that ends within a comment is none.
+    """
     at = 0
     while at < len(start):
         if start.startswith(b"/*", at):
@@ -180,7 +188,10 @@ def is_nl_start(start: bytes) -> bool:
 
 
 def model_kind_of_start(start: bytes) -> Optional[ModelKind]:
-    """The kind of a model by its first bytes; None where they are of no model."""
+    """The kind of a model by its first bytes, unpacked; None where they are of no model.
+
+    `OutputFiles` asks it of what stands at a place, and of what would be written there.
+    """
     if is_nl_start(start):
         return ModelKind.NL
     if is_mps_start(start):
@@ -201,7 +212,11 @@ def kind_of_start(start: bytes) -> Optional[FileKind]:
 
 
 def start_of_file(path: str) -> bytes:
-    """The first LOOKED_AT bytes of a plain file, unpacked; none where it cannot be read."""
+    """The first LOOKED_AT bytes of a plain file, unpacked; none where it cannot be read.
+
+    Raises:
+        zlib.error: It is packed by gzip, and damaged behind its head.
+    """
     try:
         with open(path, "rb") as file:
             packing = packing_of(file.read(6))
@@ -240,7 +255,11 @@ def is_packed_file(path: str) -> bool:
 def is_mps_file(path: str) -> bool:
     """Whether it is a plain file of MPS, packed or not, by its first bytes or its name.
 
-    A program (ELF) whose name ends with .mps is none.
+    A program (ELF) whose name ends with .mps is none. `nl-bridge` asks it of the files in its
+    words.
+
+    Raises:
+        zlib.error: As `start_of_file`.
     """
     if not os.path.isfile(path):
         return False

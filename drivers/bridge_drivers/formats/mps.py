@@ -6,6 +6,9 @@ a blank. Nothing that is proved rests on this reader.
 
 A text of a million entries has few numbers that differ. So each number stands once, as it is
 written, and entries are arrays of whole numbers by place.
+
+`read_mps` makes `MpsColumns` of a text, for `model.linear_program` and `program.mps_forms`;
+`canonical` and `write_mps` make a text in its own numbering of it.
 """
 
 from __future__ import annotations
@@ -39,7 +42,7 @@ Places = NDArray[np.int32]
 
 
 class RowBounds(NamedTuple):
-    """Bounds of rows, whole numbers over one denominator; None: there is no such bound."""
+    """Bounds by row, whole numbers over one denominator; None: there is no such bound."""
 
     lower: List[Optional[int]]
     upper: List[Optional[int]]
@@ -97,8 +100,8 @@ class MpsColumns:
     def negative_upper_bounds(self) -> List[int]:
         """The columns, by place, whose upper bound is below 0 and whose lower bound is not written.
 
-        The upper bound takes their lower one away; other readers of MPS keep 0, so that a note
-        tells of them.
+        The upper bound takes their lower one away. Other readers of MPS may take that otherwise, so
+        that a note tells of them.
         """
         return [
             column
@@ -152,7 +155,7 @@ class _Section(NamedTuple):
             at = end
 
     def records(self) -> Iterator[List[bytes]]:
-        """The words of each line behind its blank, with an empty word in front of them."""
+        """The words of each line behind an empty one: a line begins with a blank."""
         for block in self.blocks():
             for line in block.split(b"\n"):
                 if line:
@@ -190,6 +193,7 @@ class _MpsReader:
     """
 
     def __init__(self, text: bytes) -> None:
+        """Reads all of a text in the written form but its right-hand sides and ranges."""
         self.kinds: List[str] = []
         self.rows: List[bytes] = []
         self.objective = b""

@@ -79,7 +79,10 @@ def _lines(text: bytes, start: int) -> Iterator[_Line]:
 
 
 def _is_head(text: bytes, line: _Line) -> bool:
-    """Whether a line begins in the first column, as heads of sections do."""
+    """Whether a line of the text begins in the first column, as heads of sections do.
+
+    So do comments there. An empty line is none.
+    """
     return bool(line.words) and not text[line.start : line.start + 1].isspace()
 
 

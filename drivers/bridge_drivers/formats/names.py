@@ -1,4 +1,7 @@
-"""Names of constraints and variables, as AMPL writes them beside a model: stub.row and stub.col."""
+"""Names of constraints and variables, as AMPL writes them beside a model: stub.row and stub.col.
+
+Messages, refusals and tables of values call rows and columns by `NameLists`.
+"""
 
 from __future__ import annotations
 

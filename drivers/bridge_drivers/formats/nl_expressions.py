@@ -68,6 +68,7 @@ class _Node:
         opcode: Optional[int] = None,
         has_arguments: bool = False,
     ) -> None:
+        """A node without operands; the arguments are the attributes of the class."""
         self.text = text
         self.missing = missing
         self.opcode = opcode
@@ -77,9 +78,7 @@ class _Node:
         self.leaves_out = False
 
     def take(self, operand: _Phrase) -> None:
-        """Takes the next operand, and keeps it if it is one of the first MOST_OPERANDS or has
-        the mark.
-        """
+        """Takes the next operand; it is kept among the first MOST_OPERANDS, or if it is marked."""
         self.missing -= 1
         if len(self.operands) < MOST_OPERANDS or operand.is_marked:
             self.operands.append(operand)

@@ -1,8 +1,9 @@
 """Decimals: what the proved program reads, written from values and read as exact numbers.
 
 The proved program holds whole numbers up to 2^127 - 1 times a power of ten from -400 to 400. What
-solvers answer is written so; a fraction that has no such decimal is written as the nearest one of
-17 digits.
+solvers answer is written so (`decimals`); a fraction that has no such decimal is written as the
+nearest one of 17 digits. `read_decimal` is the one reader, on which those of fractions and of
+common denominators stand.
 """
 
 from __future__ import annotations
@@ -214,7 +215,9 @@ def _shortest_decimals(values: Sequence[Number]) -> List[str]:
 
 
 def require_finite(values: Sequence[Number]) -> Sequence[Number]:
-    """The values themselves, once none of them is an infinite or undefined double.
+    """The values themselves, where no double among them is infinite or not a number.
+
+    A driver asks it of reduced costs, which are not written as decimals.
 
     Raises:
         NotDecimal: One of them is infinite, or not a number.
@@ -234,5 +237,5 @@ def nearest_double(value: Union[Fraction, int]) -> Optional[float]:
 
 
 def decimal_or_fraction(fraction: str) -> str:
-    """The text `p/q` of a verdict as a decimal where it has one, else as it is."""
+    """A verdict's text `p/q`, or whole number, as a decimal where it has one, else as it is."""
     return exact_decimal(Fraction(fraction)) or fraction

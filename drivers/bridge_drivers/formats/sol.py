@@ -96,7 +96,7 @@ def solution_file(path: str, values: NamedTexts, duals: NamedTexts) -> bytes:
 
     Args:
         path: Of the file; where it ends with .json, the text is one object with `values` and
-            `duals`.
+            `duals`, where of two columns of one name the last is told.
         values: Of columns, by the names that the user knows.
         duals: Of rows; empty where there are none.
     """
@@ -109,7 +109,5 @@ def solution_file(path: str, values: NamedTexts, duals: NamedTexts) -> bytes:
 
 
 def _encoded(lines: Sequence[str]) -> bytes:
-    """Lines with their ends in UTF-8; bytes of names that are not UTF-8 are given back as they
-    were.
-    """
+    """Lines with their ends in UTF-8; bytes of names that are not UTF-8 stay as they were."""
     return ("\n".join(lines) + "\n").encode("utf-8", "surrogateescape")

@@ -4,6 +4,8 @@ What the proved program judges, what the drivers look at, and what a report's su
 same bytes: a pipe, a FIFO, a device, standard input and a packed file are copied into a private
 file as they are read, and no second time. A plain file is judged where it stands; its sum is told
 only where it is still the file that was opened.
+
+Each command and call reads its model by `read_model` into a `Source`, with copies in a `Workspace`.
 """
 
 from __future__ import annotations
@@ -270,11 +272,13 @@ class _Rejoined(io.RawIOBase):
     """
 
     def __init__(self, front: bytes, rest: BinaryIO) -> None:
+        """Of a stream from which the bytes `front` were read; `rest` is the stream behind them."""
         self.front = front
         self.rest = rest
         self.count = 0
 
     def readable(self) -> bool:
+        """True, as `io.BufferedReader` asks."""
         return True
 
     def readinto(self, buffer: bytearray) -> int:  # type: ignore[override]

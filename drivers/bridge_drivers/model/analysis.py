@@ -43,7 +43,7 @@ class Residual(NamedTuple):
     name: str
 
     def is_significant(self) -> bool:
-        """Whether the point counts as none."""
+        """Whether it is more than the tolerance, so that the point counts as none."""
         return self.times_tolerance > 1
 
 
@@ -210,6 +210,7 @@ class Statistics:
     lost: List[LostNumber] = field(default_factory=list)
 
     def __post_init__(self) -> None:
+        """Counts all of the program."""
         program = self.program
         kinds = zip(program.names.rows, program.written.kinds)
         self.row_kinds = {name: kind for name, kind in kinds if name != EPIGRAPH_ROW}
@@ -329,7 +330,7 @@ class Statistics:
 
 
 class ParsedNumber(NamedTuple):
-    """A number of the text, and whether a solver that reads doubles reads it."""
+    """The exact value of a number of the text, and whether a solver that reads doubles reads it."""
 
     value: Exact
     is_held: bool
@@ -344,6 +345,7 @@ def parsed(text: bytes) -> ParsedNumber:
 
 
 def _size(value: Exact) -> Exact:
+    """The number without its sign."""
     return -value if value < 0 else value
 
 

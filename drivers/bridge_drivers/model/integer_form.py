@@ -378,7 +378,7 @@ class _RowsOfFile(NamedTuple):
 
 
 class _AllBounds(NamedTuple):
-    """Bounds of columns and of the file's own rows, over one scale."""
+    """Bounds of columns, and of the file's own rows by their own numbers, over one scale."""
 
     columns: Box
     rows: Box

@@ -7,6 +7,8 @@ HiGHS here, whole numbers for the search in `integer_form`. Other solvers read t
 A text that `bridge export` writes has the columns x0, x1, .. and the rows c0, c1, .. of the file.
 Where the file's objective is nonlinear, a last column z stands for its value, which the row zdef
 ties to it. A file of MPS has its own names; it is written here once more, in its own numbering.
+
+Values of the objective here are in the file's own sense; `integer_form` is minimised.
 """
 
 from __future__ import annotations
@@ -50,6 +52,12 @@ class ObjectiveTerms:
     """
 
     def __init__(self, constant: float, terms: Sequence[float]) -> None:
+        """Of an objective at a point, in the file's own sense.
+
+        Args:
+            constant: Of the objective.
+            terms: Each coefficient times its column's value.
+        """
         self.constant = constant
         self.terms = terms
 
@@ -70,7 +78,9 @@ class ObjectiveTerms:
 
 
 class DoubleCosts(NamedTuple):
-    """The columns of the objective with their coefficients, those that are not 0."""
+    """The objective in the file's own sense: its columns, and their coefficients, none of them
+    0.
+    """
 
     columns: Places
     values: Doubles
@@ -90,7 +100,7 @@ class NameTable:
 
     @property
     def has_epigraph_column(self) -> bool:
-        """Whether the last column stands for the value of the objective."""
+        """Whether the last column is `z`, which stands for the value of a nonlinear objective."""
         return self.columns[-1:] == [EPIGRAPH_COLUMN]
 
 
@@ -152,6 +162,7 @@ class LinearProgram:
 
     @property
     def maximise(self) -> bool:
+        """Whether the text's sense is MAX."""
         return self.written.maximise
 
     @property
@@ -171,7 +182,7 @@ class LinearProgram:
 
     @cached_property
     def integer_count(self) -> int:
-        """How many columns are integer."""
+        """How many columns are integer, those that a driver may relax too."""
         return sum(self.written.is_integer)
 
     @property
@@ -195,7 +206,10 @@ class LinearProgram:
         return self.objective_rhs != "0" or bool(self.cost_texts)
 
     def has_empty_domain(self) -> bool:
-        """Whether an integer column has no whole number between its bounds."""
+        """Whether an integer column has no whole number between its bounds: it is infeasible then.
+
+        Decided exactly. A solver is not asked of such a program, whose rounded bounds would cross.
+        """
         if not self.integer_count:
             return False
         return any(

@@ -148,8 +148,8 @@ class SparseRows:
         """By row the sum of its coefficients times the columns' values, exactly.
 
         Args:
-            x: By column, whole numbers, negative ones too. Over a denominator, so are the sums, and
-                over the coefficients' own scale besides.
+            x: By column, whole numbers over any denominator. The sums stand over that denominator
+                times the scale of the coefficients.
         """
         if not self.is_large:
             return [sum([a * x[j] for j, a in row]) for row in self.rows]
@@ -163,10 +163,10 @@ class SparseRows:
         Reduced costs are made so: of costs and duals.
 
         Args:
-            values: By column, whole numbers over the scale of `factor` times multipliers times
-                coefficients. The list is lost: it may be changed, and be the answer.
-            multipliers: By row, those that are not 0.
-            factor: What brings the combination to the scale of `values`.
+            values: By column, whole numbers. The list is lost: it may be changed, and be the
+                answer.
+            multipliers: By row, whole numbers, those that are not 0.
+            factor: What brings the combination of rows to the scale of `values`.
         """
         if not multipliers:
             return values

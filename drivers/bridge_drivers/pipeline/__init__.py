@@ -1,5 +1,6 @@
-"""The way of a model from its source to an outcome: functions of values, which print nothing and
-parse no words.
+"""The way of a model from its source to an outcome.
+
+Its functions are functions of values: they print nothing and parse no words.
 
 - what is asked: `settings`, and `option_values` (options by name);
 - the run: `memory` and `read_model` (models), `solve` (one run), `answered_run` (the solver's

@@ -1,5 +1,4 @@
-"""A solver's answer in decimals that the proved program reads, and the text that `bridge return`
-takes.
+"""A solver's answer in decimals, and the text of it that `bridge return` takes.
 
 The type is `Answer`: `answered_run` makes it of what a solver found, `resolution` moves it to what
 was proved, `certification` judges it, and `outputs` names its numbers.
@@ -62,8 +61,7 @@ class Answer:
     """
 
     def __init__(self, program: LinearProgram, found: SolverAnswer, settings: Settings) -> None:
-        """Makes the decimals of what a solver found, values of integer columns at the whole numbers
-        near them.
+        """Makes decimals of what a solver found, integer columns at the whole numbers near them.
 
         Raises:
             NotDecimal: A number is infinite or not a number, or no decimal stands for it.
@@ -120,8 +118,7 @@ class Answer:
 
     @cached_property
     def residual(self) -> Residual:
-        """By how much the values that are written miss a row or bound, of the one that they miss
-        most.
+        """By how much the values that are written miss the row or bound that they miss most.
 
         Where values of integer columns are far from whole numbers, it is the largest of these
         distances; without a point it is NO_RESIDUAL.
@@ -142,8 +139,10 @@ class Answer:
         return is_clear and not self.residual.is_significant()
 
     def notes(self) -> list[str]:
-        """Lines for the message on the values that are written: integer ones that are not near
-        whole numbers, and fractions that are rounded to decimals.
+        """Lines for the message on the values that are written.
+
+        They tell of integer columns that are not near whole numbers, and of fractions that are
+        rounded to decimals.
         """
         notes = []
         if self.distances:
@@ -192,14 +191,16 @@ class Answer:
         return other
 
     def without_duals(self) -> Answer:
-        """The same values without duals and reduced costs, and so without the basis, which is
-        written beside reduced costs alone.
+        """The same values without duals and reduced costs.
+
+        The basis is then not written either: it stands beside reduced costs alone.
         """
         return self.with_duals(None)
 
     def with_duals(self, duals: Sequence[str] | None) -> Answer:
-        """The same values with other duals (a decimal for each row, none of them counted as
-        rounded; None for none), and without reduced costs.
+        """The same values with other duals, and without reduced costs.
+
+        The duals are a decimal for each row, none of them counted as rounded; None for none.
         """
         other = copy.copy(self)
         other.__dict__.pop("_body", None)
@@ -211,8 +212,9 @@ class Answer:
     def moved_near(
         self, values: Sequence[Number], duals: Mapping[int, Fraction], code: Code
     ) -> Answer:
-        """The answer at a proved point that is its own but for its digits: reduced costs and basis
-        still stand.
+        """The answer at a proved point that is its own but for digits.
+
+        Reduced costs and basis still stand there.
 
         Args:
             values: Of the proved point, by column, that of a nonlinear objective's column too.
@@ -259,8 +261,9 @@ class Answer:
         return Answer(self.program, found, self.settings).with_code(code)
 
     def text(self, message: Sequence[str]) -> bytes:
-        """The bytes that `bridge return` makes a .sol of: the code, the objective's number from 0,
-        the message, and the numbers.
+        """The text that `bridge return` makes a .sol of, in bytes.
+
+        It has the code, the objective's number from 0, the message, and the numbers.
 
         Args:
             message: Its lines, without their ends.
@@ -274,8 +277,7 @@ class Answer:
         return ("\n".join(lines) + "\n").encode() + self._body
 
     def _with_integers(self, values: Sequence[Number]) -> Sequence[Number]:
-        """The values by column, those of integer columns within NEAR_WHOLE of a whole number being
-        that number.
+        """The values by column, integer ones within NEAR_WHOLE of a whole number made that number.
 
         Adds to `distances` how far the others are; infinite ones stay as they are. Nothing is done
         unless `rounds_integers`.
@@ -307,8 +309,9 @@ class Answer:
         return b"".join(piece for part in parts for piece in part)
 
     def _suffixes(self) -> Iterator[Iterator[bytes]]:
-        """The lines of the suffixes `rc` (reduced costs) and `sstatus` (the basis); none without
-        reduced costs.
+        """The lines of the suffixes `rc` (reduced costs) and `sstatus` (the basis).
+
+        Without reduced costs there are none.
 
         Reduced costs of 0 are left out, but where all are 0 the first is written, so that the
         suffix is there.
@@ -346,8 +349,9 @@ def exact_reduced_costs(program: LinearProgram, duals: Sequence[Fraction]) -> li
 
 
 def _are_near(duals: Mapping[int, Fraction], own: Sequence[Number]) -> bool:
-    """Whether each proved dual is the solver's own but for rounding: |y - own| <= NEAR_DUAL *
-    max(1, |y|).
+    """Whether each proved dual is the solver's own but for rounding.
+
+    That is |y - own| <= NEAR_DUAL * max(1, |y|).
 
     Args:
         duals: The proved ones, by row; not each row need have one.

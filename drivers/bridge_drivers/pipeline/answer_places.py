@@ -37,8 +37,10 @@ def answer_by_place(answer: Answer) -> AnswerByPlace:
 
 
 def _values(answer: Answer, columns: int) -> List[Union[float, Fraction]] | None:
-    """The values of the first `columns` columns: doubles or fractions, of integer columns the
-    fraction that is written; None without a point.
+    """The values of the first `columns` columns; None without a point.
+
+    They are doubles or fractions as the solver told them, of integer columns the fraction that is
+    written.
     """
     found, program = answer.found, answer.program
     if found.values is None or answer.values is None:
@@ -54,8 +56,9 @@ def _values(answer: Answer, columns: int) -> List[Union[float, Fraction]] | None
 
 
 def _basis(found: SolverAnswer, columns: int, numbers: Mapping[int, int]) -> clp.Basis | None:
-    """The basic columns, and the rows that are not basic (their slack is at a bound); None where
-    the solver told no basis.
+    """The basic columns, and the rows that are not basic: their slack is at a bound.
+
+    None where the solver told no basis.
 
     Args:
         found: What the solver answered, by column and row of the exported program.

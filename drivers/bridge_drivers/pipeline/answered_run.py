@@ -1,5 +1,4 @@
-"""What a solver answers to a program, what is proved of it, and what is passed on: the message and
-the .sol.
+"""What a solver answers to a program, what is proved of it, and what is passed on.
 
 `solve.SolveRun` makes an `AnsweredRun` once the model is read; its `outcome` is an `Outcome`, which
 each command and call of the package tells.
@@ -144,8 +143,9 @@ class AnsweredRun:
         return answer
 
     def _asked(self) -> Answer:
-        """One run of the solver, and its answer in decimals; the solver's words say where the user
-        interrupted it.
+        """Runs the solver once, and makes decimals of its answer.
+
+        Where the user interrupted it, the solver's words say so.
 
         Raises:
             UnusableAnswer: It gave no answer that is understood.
@@ -172,8 +172,7 @@ class AnsweredRun:
             raise NotStarted(path, str(fault.strerror), "run or written") from None
 
     def _retried(self, was: str) -> Answer | None:
-        """The answer to a second question, asked in the solver's other way (`retry_words`), with a
-        note on that.
+        """The solver's answer to a second question, asked in its other way, with a note on that.
 
         Args:
             was: What the first answer was, in words behind `its first answer`.
@@ -237,8 +236,7 @@ class AnsweredRun:
         )
 
     def _notes_on_answer(self, answer: Answer, resolution: Resolution) -> list[str]:
-        """Lines on model and answer: the model's notes, the solver's, and by how much its point
-        misses what it misses most.
+        """Lines on the model, the solver's own notes, and by how much its point misses the model.
 
         The solver's own answer is the first of them where another one is told in its place.
         """
@@ -252,9 +250,7 @@ class AnsweredRun:
         return lines
 
     def _notes_on_search(self, resolution: Resolution) -> list[str]:
-        """Lines on the search: that the user ended it, and the objective of a point other than the
-        solver's.
-        """
+        """Lines on the search: that the user ended it, and the objective of another point."""
         lines = []
         if self.judge.is_interrupted:
             lines.append("interrupted: the search for a certificate was ended")
@@ -264,8 +260,9 @@ class AnsweredRun:
         return lines
 
     def _first_line(self, resolution: Resolution, passed_on: Answer, said: Statement | None) -> str:
-        """The first line of the message: the head, with what is proved of a gap, and what code 0 is
-        not earned for.
+        """The first line of the message.
+
+        It is the head, with what is proved of a gap, and what code 0 is not earned for.
 
         Args:
             resolution: What is decided.
@@ -278,8 +275,7 @@ class AnsweredRun:
         return self._head(passed_on, corrected=resolution.text, more=more)
 
     def _head(self, answer: Answer, corrected: str | None = None, more: str = "") -> str:
-        """The solver's title, its words or those told instead, the objective, and whether integers
-        were relaxed.
+        """The solver's title, its words or others, the objective, and whether integers are relaxed.
 
         Args:
             answer: Whose words and objective are told.
@@ -331,8 +327,9 @@ class AnsweredRun:
         return returned
 
     def _verdict(self, answer: Answer) -> Evidence:
-        """What is proved of the answer; of check=0, or where a file or the search is at fault, why
-        nothing is.
+        """What is proved of the answer, or why nothing is.
+
+        With check=0, or where a file or the search is at fault, nothing is.
 
         Raises:
             NotReturned: The proved program does not take the answer back.
@@ -352,8 +349,7 @@ class AnsweredRun:
 
 
 def with_proved_duals(answer: Answer, verdict: Evidence, told: str) -> Answer | None:
-    """An answer with code 0 with the duals of the certificate, where its own show no optimum, or no
-    bound.
+    """An answer with the certificate's duals, where its own do not show what is proved.
 
     Args:
         answer: What is passed on.
@@ -375,8 +371,9 @@ def with_proved_duals(answer: Answer, verdict: Evidence, told: str) -> Answer | 
 
 
 def shows_its_claim(told: str, claim: str) -> bool:
-    """Whether a .sol needs no other duals: by the words of `bridge check` its own show what is
-    proved, or its values break the model.
+    """Whether a .sol needs no other duals.
+
+    By the words of `bridge check` its own show what is proved, or its values break the model.
 
     Args:
         told: These words: `yes V` where the duals show the optimum, `gap V W` where they show a
@@ -388,8 +385,9 @@ def shows_its_claim(told: str, claim: str) -> bool:
 
 
 def proved_gap_words(said: Statement | None) -> str:
-    """What is proved of a gap, for behind the solver's words; "" where not both a point and a bound
-    are proved.
+    """What is proved of a gap, for behind the solver's words.
+
+    It is "" unless both a point and a bound are proved.
 
     The gap is |bound - value| / max(|bound|, |value|), in percent.
     """
@@ -402,9 +400,7 @@ def proved_gap_words(said: Statement | None) -> str:
 
 
 def words_of_first(first: SolverAnswer) -> str:
-    """What an answer was that the solver is asked once more for, in words behind `its first
-    answer`.
-    """
+    """What the answer was after which the solver is asked once more, in words."""
     if first.status is SolverStatus.INFEASIBLE_OR_UNBOUNDED:
         return f"was `{first.text}`"
     return "does not satisfy the model"

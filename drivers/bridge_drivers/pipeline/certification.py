@@ -55,8 +55,9 @@ CLAIM_OF_STATUS: Mapping[SolverStatus, AnswerClaim] = {
 
 
 class Returned(NamedTuple):
-    """An answer as `bridge return` took it, perhaps without its duals, with its .sol, which is
-    empty where none is made.
+    """An answer as `bridge return` took it, perhaps without its duals, and its .sol.
+
+    The .sol is empty where none is made.
     """
 
     answer: Answer
@@ -64,8 +65,9 @@ class Returned(NamedTuple):
 
 
 class WrittenNumbers(NamedTuple):
-    """Values and duals as decimals, in the order of the file's variables and constraints; the duals
-    are empty unless the program is continuous.
+    """Values and duals as decimals, in the order of the file's variables and constraints.
+
+    The duals are empty unless the program is continuous.
     """
 
     values: list[str]
@@ -94,6 +96,15 @@ class AnswerCertifier:
     def __init__(
         self, bridge: Bridge, model: str, run: SolverRun, settings: Settings, monitor: Monitor
     ) -> None:
+        """For one run of a solver, whose program decides what is judged how.
+
+        Args:
+            bridge: The proved program.
+            model: The path of the model as the proved program reads it.
+            run: The solver's run, which need not have begun.
+            settings: Those of the whole run.
+            monitor: Is told what goes on.
+        """
         self.bridge = bridge
         self.model = model
         self.run = run
@@ -114,8 +125,9 @@ class AnswerCertifier:
     def returned(
         self, answer: Answer, lines: list[str], name: str = "bridge", place: int = 0
     ) -> Returned:
-        """An answer and its .sol by `bridge return`, which is asked where a .sol is wanted or there
-        are duals.
+        """An answer and its .sol by `bridge return`.
+
+        That is asked where a .sol is wanted or there are duals, but of an MPS file never.
 
         Where its duals are too wide it is returned without them, and a line says so. The text and
         the .sol are written into the run's folder.
@@ -174,8 +186,9 @@ class AnswerCertifier:
         return self._judged_values(values)
 
     def _values_of_file(self, answer: Answer) -> list[str]:
-        """The decimals of an answer's values by the file's variable, without the column of a
-        nonlinear objective's value; empty without a point.
+        """The decimals of an answer's values by the file's variable; empty without a point.
+
+        The column of a nonlinear objective's value is left out.
         """
         values = list(answer.values or ())
         return values[:-1] if self.program.names.columns[-1:] == [EPIGRAPH_COLUMN] else values
@@ -316,17 +329,16 @@ class AnswerCertifier:
         return evidence._replace(duals=exported)
 
     def _tell(self, progress: SearchProgress) -> None:
-        """Passes what the search is at on to the line of progress: its numbers, else its step in
-        words.
-        """
+        """Tells the line of progress what the search is at: its numbers, else its step in words."""
         if progress.numbers:
             self.monitor.progress.tell_numbers(progress.numbers)
         else:
             self.monitor.progress.tell(progress.step)
 
     def from_answer_itself(self, judge: CertificateJudge, answer: Answer) -> Evidence:
-        """What is proved where the answer's values and duals as they are written are the
-        certificate, or else both rounded to PLACES decimals.
+        """What an answer proves by itself: its values and duals are the certificate.
+
+        They are tried as they are written, then rounded to PLACES decimals.
 
         Only the rounded one has its point in the evidence.
         """
@@ -346,8 +358,7 @@ class AnswerCertifier:
         return second._replace(point=list(map(Fraction, values)))
 
     def judged(self, judge: CertificateJudge, values: list[str], duals: list[str]) -> Evidence:
-        """What the certificate proves that has these values as its point and these duals as its one
-        leaf.
+        """What the certificate proves whose point and one leaf are these values and duals.
 
         Args:
             judge: Is asked of it.
@@ -362,8 +373,7 @@ class AnswerCertifier:
         return Evidence(judgement.line, certificate=("\n".join(lines) + "\n").encode("ascii"))
 
     def numbers(self, answer: Answer) -> WrittenNumbers:
-        """The values and duals of an answer as they are written: those of its .sol, where one is
-        made.
+        """The values and duals of an answer as they are written, in its .sol where one is made.
 
         Raises:
             Refusal: The proved program does not take the answer back.
@@ -378,8 +388,10 @@ class AnswerCertifier:
     def closing_lines(
         self, verdict: Evidence, said: Statement | None, stored: StoredCertificate | None
     ) -> list[str]:
-        """The last lines of a message: the claim in words, what became of processes and
-        certificate, why no more is proved, and the verdict.
+        """The last lines of a message, the verdict behind all.
+
+        Before it stand the claim in words, what became of processes and certificate, and why no
+        more is proved.
 
         A search that was asked for and cannot be made is told as `not proved`, with what is proved
         without it.
@@ -402,9 +414,7 @@ class AnswerCertifier:
         return [line for line in (*lines, verdict.note, last) if line]
 
     def stored(self, verdict: Evidence) -> StoredCertificate | None:
-        """Keeps the accepted certificate where one is wanted, and says what was done; None where
-        none is wanted.
-        """
+        """Keeps the accepted certificate, and says what was done; None where none is wanted."""
         target = self.settings.certificate.path
         if not target:
             return None
@@ -453,8 +463,9 @@ class AnswerCertifier:
         return f"{told}; no row or bound is {by}"
 
     def claim_words(self, said: Statement | None, note: str = "") -> list[str]:
-        """A line with the claim in words, where it says more than the verdict does; none of a final
-        claim.
+        """A line with the claim in words, where that says more than the verdict.
+
+        There is none of a final claim.
 
         Args:
             said: What is proved; None where nothing is.
@@ -473,8 +484,9 @@ class AnswerCertifier:
         return ["in words: " + text]
 
     def check_words(self, line: str) -> str:
-        """A line of `bridge check`, or of `bridge verify` where it accepts no point, in words, with
-        the user's names and decimals.
+        """A line of `bridge check` in words, with the user's names and decimals.
+
+        It may also be one of `bridge verify` that accepts no point.
         """
         words = line.split()
         if words[0] in ("yes", "gap"):
@@ -489,8 +501,9 @@ class AnswerCertifier:
         return f"the reduced cost of {part} has no bound to rest on"
 
     def named_part(self, kind: str, number: int) -> str:
-        """A constraint (of the kind `row`) or variable (of any other) by its number in the file,
-        from 0, and its name where there is one.
+        """A constraint (of the kind `row`) or variable (of any other), by number and by name.
+
+        The number is the file's, from 0; the name is told where there is one.
         """
         names = self.program.own_names
         return names.constraint(number) if kind == "row" else names.variable(number)
@@ -505,8 +518,9 @@ class AnswerCertifier:
 
 
 def is_point(values: Sequence[str], point: Sequence[Fraction] | None) -> bool:
-    """Whether decimals, one for each variable of the file, are this point exactly; False without a
-    point.
+    """Whether decimals, one for each variable of the file, are this point exactly.
+
+    False without a point.
     """
     if point is None or len(point) != len(values):
         return False
@@ -520,8 +534,9 @@ def feasible_words(value: Fraction) -> str:
 
 
 def rounded_parts(answer: Answer) -> str:
-    """What of an answer is only the nearest decimals of fractions, in words: `values`, `duals` or
-    both; "" where nothing is.
+    """What of an answer is only the nearest decimals of fractions, in words.
+
+    `values`, `duals` or both; "" where nothing is.
     """
     counts = {"values": answer.rounded_values, "duals": answer.rounded_duals}
     return " and ".join(name for name, count in counts.items() if count)

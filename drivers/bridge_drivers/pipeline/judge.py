@@ -41,8 +41,9 @@ class CertificateJudge:
         bridge.file_names[path] = "the certificate"
 
     def __call__(self, lines: Iterable[str]) -> Union[Verdict, Unproved]:
-        """Writes a certificate and asks the proved program of it; the file stays until the next
-        one.
+        """Writes a certificate and asks the proved program of it.
+
+        The file stays until the next one.
 
         Args:
             lines: Of the certificate, without their ends. All are taken, though they may be made as

@@ -1,5 +1,6 @@
-"""What a run tells of itself while it goes on: to the library's log, to the progress line, and to a
-function of the caller.
+"""What a run tells of itself while it goes on.
+
+It tells the library's log, the progress line, and a function of the caller.
 
 A `Monitor` goes through one run: `solve` makes it or is given it, and all that works in the run
 tells it.
@@ -44,8 +45,9 @@ class ProgressEvent(NamedTuple):
 
     @property
     def bound(self) -> float | None:
-        """What no point is better than, in the objective's own sense and as far as the solver or
-        the search says; None where nothing is known.
+        """What no point is better than, in the objective's own sense; None where nothing is known.
+
+        It is what the solver or the search says, and nothing proved.
         """
         return self.numbers.get("bound")
 
@@ -94,6 +96,12 @@ class Monitor(RunObserver):
     def __init__(
         self, name: str, on_progress: Callable[[ProgressEvent], None] | None = None
     ) -> None:
+        """The run begins now.
+
+        Args:
+            name: The command that messages name.
+            on_progress: Is called with what is known while the run goes on; None for none.
+        """
         self.name = name
         self.began = time.monotonic()
         self.seconds: dict[str, float] = {}
@@ -115,24 +123,21 @@ class Monitor(RunObserver):
         self.seconds[part] = self.seconds.get(part, 0.0) + spent
 
     def command_starts(self, argv: Sequence[str], folder: str = "") -> None:
-        """Logs a command that is started (level DEBUG): the run's seconds so far, its words, and
-        its folder.
-        """
+        """Logs a command that starts (level DEBUG), its folder and the run's seconds so far."""
         if LOGGER.isEnabledFor(logging.DEBUG):
             where = f"  (in {folder})" if folder else ""
             elapsed = time.monotonic() - self.began
             LOGGER.debug("%s: %.2f s: %s%s", self.name, elapsed, shlex.join(argv), where)
 
     def stage_begins(self, stage: str, limit: float) -> None:
-        """Shows the stage with its limit in seconds (0 for none), and forgets the numbers of the
-        stage before.
-        """
+        """Shows a stage with its limit in seconds (0 for none), and forgets older numbers."""
         self._known = {}
         self.progress.begin(stage, limit)
 
     def log_line(self, line: str) -> None:
-        """Logs a line of the solver's log (level INFO), and tells the progress all numbers that
-        were read so far where it has any.
+        """Logs a line of the solver's log (level INFO).
+
+        Where it has numbers, the progress is told all that were read of the stage so far.
         """
         SOLVER_LOGGER.info("%s", line)
         found = self.read_line(line)
@@ -145,9 +150,7 @@ class Monitor(RunObserver):
         self.add_time("solver", spent)
 
     def summary(self) -> str:
-        """A line with the seconds of the wall that each part, and all, took, and the driver's own
-        of the processor.
-        """
+        """A line with the seconds of the wall of each part, and the processor's of the driver."""
         parts = "".join(f"{part} {seconds:.2f}, " for part, seconds in self.seconds.items())
         return (
             f"{self.name}: seconds: {parts}all {time.monotonic() - self.began:.2f}; "

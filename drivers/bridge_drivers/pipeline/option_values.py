@@ -1,5 +1,4 @@
-"""Options by the names that commands have, with values of Python: what each may be, and the
-settings that they make.
+"""Options by the names that commands have, with values of Python, and the settings that they make.
 
 The calls of the package make their settings here of keyword arguments, or of words `name=value`.
 The drivers read their words by `commands.options`, and use `run_settings` alone.
@@ -65,11 +64,10 @@ def _switch(value: Any) -> bool:
 
 
 def _whole(low: int, high: float = math.inf) -> Callable[[Any], int]:
-    """Takes whole numbers from `low` to `high`, both among them, also a float that is whole, but no
-    truth value.
-    """
+    """Takes whole numbers from `low` to `high`, both included; whole floats too, no truth value."""
 
     def take(value: Any) -> int:
+        """The number as an int; ValueError or TypeError where it is none of these."""
         if isinstance(value, bool) or value != int(value) or not low <= value <= high:
             raise ValueError(value)
         return int(value)
@@ -78,11 +76,10 @@ def _whole(low: int, high: float = math.inf) -> Callable[[Any], int]:
 
 
 def _amount(high: float = math.inf) -> Callable[[Any], float]:
-    """Takes finite numbers from 0 to `high`, both among them, as a float; no text and no truth
-    value.
-    """
+    """Takes finite numbers from 0 to `high`, both included, as a float; no text, no truth value."""
 
     def take(value: Any) -> float:
+        """The number; ValueError or TypeError where it is none of these."""
         number = float(value)
         if isinstance(value, (str, bool)) or not (0 <= number < math.inf and number <= high):
             raise ValueError(value)
@@ -107,6 +104,7 @@ def _choice(*known: str) -> Callable[[Any], str]:
     """Takes exactly the texts that are given."""
 
     def take(value: Any) -> str:
+        """The text as it is; ValueError where it is none of these."""
         if value not in known:
             raise ValueError(value)
         return str(value)
@@ -181,8 +179,9 @@ def kinds_of(solver: str) -> Dict[str, Kind]:
 
 
 def checked_values(solver: str, given: Mapping[str, object]) -> Dict[str, Any]:
-    """The values of options by name, as settings have them; None counts as not given, and is left
-    out.
+    """The values of options by name, as settings have them.
+
+    None counts as not given, and is left out.
 
     Args:
         solver: The name of the solver.
@@ -206,8 +205,9 @@ def checked_values(solver: str, given: Mapping[str, object]) -> Dict[str, Any]:
 
 
 def values_of_words(solver: str, words: Sequence[str]) -> Dict[str, object]:
-    """Values of Python by name, of options that are given as words `name=value`; the last of a name
-    counts.
+    """Values of Python by name, of options that are given as words `name=value`.
+
+    The last word of a name counts.
 
     What they may be is not checked beyond that: `checked_values` follows.
 
@@ -281,9 +281,7 @@ def run_settings(solver: str, values: Mapping[str, Any]) -> RunSettings:
 
 
 def _solver_settings(values: Mapping[str, Any]) -> SolverSettings:
-    """What the solver itself is asked, by the checked values of options; its limit of time is not
-    among it.
-    """
+    """What the solver itself is asked, by checked values of options, but for its time limit."""
     get = values.get
     return SolverSettings(
         relax=bool(get("relax")),

@@ -1,5 +1,4 @@
-"""The one place where a code is decided: what was found of a model and of an answer to it, and the
-code that this earns.
+"""The one place where a code is decided, by what was found of a model and of an answer to it.
 
 drivers/CODES.md is the same in words, and a test goes through every pair of them. `resolution`
 makes the `Findings` and carries the `Ruling` out; `code_of_error` is for runs without an outcome.
@@ -109,8 +108,9 @@ CODES_OF_ERRORS: Sequence[tuple[type[errors.BridgeError], Code]] = (
 
 
 def code_of_error(error: errors.BridgeError) -> Code:
-    """AMPL's code of a run that ended by this error: that of the first class in CODES_OF_ERRORS
-    that it is of.
+    """AMPL's code of a run that ended by this error.
+
+    It is that of the first class in CODES_OF_ERRORS that the error is of.
     """
     return next(code for kind, code in CODES_OF_ERRORS if isinstance(error, kind))
 
@@ -165,8 +165,9 @@ def _of_proved_point(found: Findings) -> Ruling:
 
 
 def _shortfall_of_own_point(found: Findings) -> str:
-    """Why a solver's `optimal` earns no code 0 whose own point is proved feasible; "" where it
-    does.
+    """Why a solver's `optimal` earns no code 0 though its own point is proved feasible.
+
+    It is "" where it earns it.
 
     Without a bound that is met, it does in an integer program, unless it is open whether it is
     unbounded.
@@ -182,8 +183,9 @@ def _shortfall_of_own_point(found: Findings) -> str:
 
 
 def _of_answer(found: Findings) -> Ruling:
-    """The ruling where no point is proved, and the answer has one: what its values miss, then a
-    bound that they beat, then what its `optimal` lacks.
+    """The ruling where no point is proved, and the answer has one.
+
+    What its values miss counts first, then a bound that they beat, then what its `optimal` lacks.
     """
     answer = PointSource.ANSWER
     if found.violation is Violation.MUCH:
@@ -199,8 +201,9 @@ def _of_answer(found: Findings) -> Ruling:
 
 
 def _shortfall_of_answer(found: Findings) -> str:
-    """Why a solver's `optimal` earns no code 0 of which no point is proved; "" where it does: of a
-    continuous program only, with a bound that is met.
+    """Why a solver's `optimal` earns no code 0 where no point is proved; "" where it does.
+
+    It does only of a continuous program, with a bound that is met.
     """
     if found.is_contradicted or not found.is_continuous:
         return "no exact point has its whole values"

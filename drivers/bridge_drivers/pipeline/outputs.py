@@ -28,15 +28,17 @@ def named_values(answer: Answer | None) -> NamedTexts:
 
 
 def named_reduced_costs(answer: Answer | None) -> NamedTexts:
-    """The reduced costs of the file's variables, as decimals in the objective's own sense; empty
-    where there are none.
+    """The reduced costs of the file's variables, as decimals in the objective's own sense.
+
+    Empty where there are none.
     """
     return _by_column(answer, answer.reduced_cost_texts if answer else None)
 
 
 def named_duals(answer: Answer | None) -> NamedTexts:
-    """The duals of the file's constraints that were exported, as decimals in the objective's own
-    sense; empty where there are none.
+    """The duals of the file's constraints, as decimals in the objective's own sense.
+
+    Only constraints that were exported have one; empty where there are none.
 
     The row of a nonlinear objective's value is left out. Where the user knows no name, it is that
     of the exported text, such as c3.
@@ -53,8 +55,9 @@ def named_duals(answer: Answer | None) -> NamedTexts:
 
 
 def _by_column(answer: Answer | None, texts: Sequence[str] | None) -> NamedTexts:
-    """Texts by the names of the file's variables, without the column of a nonlinear objective's
-    value.
+    """Texts by the names of the file's variables.
+
+    The column of a nonlinear objective's value is left out.
 
     Args:
         answer: Whose program has the columns.
@@ -100,8 +103,9 @@ def write_outputs(
 
 
 def sol_data(outcome: Outcome, source: Source, objective: int) -> bytes:
-    """The bytes of a .sol with the whole message: that of `bridge return`, else one with the code
-    alone.
+    """The bytes of a .sol with the whole message.
+
+    It is that of `bridge return`, else one with the code alone.
 
     Args:
         outcome: What is told.
@@ -125,8 +129,9 @@ def write_sol(source: Source, data: bytes) -> None:
 
 
 def remove_older_sol(source: Source) -> None:
-    """Removes a .sol beside the model, which must not pass for that of a run that begins; where the
-    model cannot be read it stays.
+    """Removes a .sol beside the model: it must not pass for that of a run that begins.
+
+    Where the model cannot be read it stays.
     """
     if os.path.isfile(source.path) and os.access(source.path, os.R_OK):
         OutputFiles([source.path], model_kind_of_start).remove(source.stub + ".sol")
@@ -153,8 +158,9 @@ def write_solution(outcome: Outcome, source: Source, outputs: OutputSettings) ->
 
 
 def exit_status(outcome: Outcome) -> ExitStatus:
-    """The exit status of a command that had this outcome: UNWRITTEN where its certificate was not
-    kept, NOT_SETTLED where `strict` is not met.
+    """The exit status of a command that had this outcome.
+
+    UNWRITTEN where its certificate was not kept, NOT_SETTLED where `strict` is not met, else DONE.
     """
     if outcome.stored is not None and outcome.stored.has_failed:
         return ExitStatus.UNWRITTEN

@@ -1,5 +1,4 @@
-"""A model with the proved program's calls that are about it: an .nl file, or an MPS file of either
-form.
+"""A model with the proved program's calls that are about it: an .nl file or an MPS file.
 
 It is for all that does not solve: the commands of `nl-bridge` and the calls of the package that
 convert, verify, explain and count.
@@ -43,8 +42,9 @@ class ReadModel(NamedTuple):
         return read_header(self.path).constraints
 
     def names(self) -> NameLists:
-        """The names that the user knows, by the file's numbers: those of an MPS file, or in lists
-        beside an .nl file.
+        """The names that the user knows, by the file's numbers.
+
+        They are those of an MPS file, or in lists beside an .nl file.
         """
         if self.own is not None:
             return self.own.own_names

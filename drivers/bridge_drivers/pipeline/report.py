@@ -1,5 +1,4 @@
-"""What is known of one call of the package: what its functions answer, and what commands print with
-json=1.
+"""What is known of one call of the package: its answer, and what commands print with json=1.
 
 A `ReportedCall` goes along with a call and makes its `Report` at the end, or that of the error by
 which it ends.
@@ -34,9 +33,11 @@ class ExactNumbers(Mapping[str, Fraction]):
     """
 
     def __init__(self, texts: Sequence[Tuple[str, str]]) -> None:
+        """Of names and decimals in the order of the file; of two of one name the later counts."""
         self.texts: Mapping[str, str] = dict(texts)
 
     def __getitem__(self, name: str) -> Fraction:
+        """The number of a name, exactly; KeyError where there is none."""
         return Fraction(self.texts[name])
 
     def __iter__(self) -> Iterator[str]:
@@ -107,8 +108,10 @@ class Report:
     program: Sequence[str] = ()
 
     def object(self) -> JsonObject:
-        """The report as report.schema.json says: keys of OPTIONAL that have nothing are missing,
-        numbers are as `number_object` makes them, and those of `more` stand beside the others.
+        """The report as report.schema.json says.
+
+        Keys of OPTIONAL that have nothing are missing, numbers are as `number_object` makes them,
+        and the keys of `more` stand beside the others.
         """
         left_out = {*HIDDEN, *(key for key in OPTIONAL if getattr(self, key) is None)}
         found = {key: value for key, value in vars(self).items() if key not in left_out}
@@ -208,8 +211,7 @@ class ReportedCall:
         return error
 
     def _sums(self) -> Dict[str, str | None]:
-        """The SHA-256 of what the call read and wrote, by the names in SUMMED; None where there is
-        none.
+        """The SHA-256 of what the call read and wrote, by the names in SUMMED, or None.
 
         A source is not opened again: it may be a pipe, and its sum is that of the bytes that were
         read. Of a proved program that is started by several words there is none.

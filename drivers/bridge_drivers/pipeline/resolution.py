@@ -1,5 +1,4 @@
-"""What is passed on: the code, the point and the objective of an answer beside what was proved of
-the model.
+"""What is passed on: code, point and objective, by an answer and what was proved of the model.
 
 A proved claim holds whatever the solver said, and nothing contradicts it. `answered_run` calls
 `resolve` once the proof is there. It makes the `Findings`, has `outcome.decide` rule on them, and
@@ -146,9 +145,7 @@ def findings_of(
 
 
 def _has_other_objective(answer: Answer, proved: ProvedPoint | None) -> bool:
-    """Whether the proved point of an integer program has the answer's values up to their digits,
-    and another objective.
-    """
+    """Whether an integer program's proved point is the answer's but for digits and objective."""
     if proved is None or proved.kind or not answer.program.integer_count:
         return False
     return proved.has_other_objective
@@ -221,8 +218,7 @@ def proved_point(answer: Answer, verdict: Evidence) -> ProvedPoint | None:
 
 
 def proved_duals(answer: Answer, verdict: Evidence) -> dict[int, Fraction]:
-    """The duals of a certificate of one leaf, by row of the program and in the objective's own
-    sense.
+    """The duals of a certificate of one leaf, by row of the program, in the objective's own sense.
 
     The verdict has them by the file's constraint; rows without one are left out, and so is that of
     a nonlinear objective.
@@ -256,8 +252,9 @@ def kind_beside(answer: Answer, doubles: Sequence[float], objective: ObjectiveTe
 
 
 def have_other_values(old: ObjectiveTerms, new: ObjectiveTerms) -> bool:
-    """Whether two objectives are not the same in doubles: apart by more than RELATIVE_DIFFERENCE of
-    the largest term, or of the old one's sum.
+    """Whether two objectives are not the same in doubles.
+
+    They are apart by more than RELATIVE_DIFFERENCE of the largest term, or of the old one's sum.
     """
     size = max(old.largest, new.largest, abs(old.value))
     return abs(old.value - new.value) > RELATIVE_DIFFERENCE * size
@@ -297,8 +294,9 @@ def nearest_doubles(values: Sequence[Fraction]) -> list[float]:
 def _at_proved_point(
     answer: Answer, verdict: Evidence, proved: ProvedPoint, ruling: Ruling
 ) -> Resolution:
-    """What is passed on at the point that was proved, moved to it or, where it is the answer's own
-    but for digits, near it.
+    """What is passed on at the point that was proved.
+
+    The answer is moved to it, or near it where it is the answer's own but for digits.
 
     Where it is the answer's own, the solver's words stay with its own code, with a shortfall, or
     with a gap that was asked for. With code 0 the duals of the certificate go with it.
@@ -326,8 +324,9 @@ def _at_proved_point(
 
 
 def _words_of_code(answer: Answer, verdict: Evidence, code: Code) -> str | None:
-    """The words of a code that are told in place of the solver's own; of a gap that was asked for
-    and is met there are words of its own.
+    """The words of a code that are told in place of the solver's own.
+
+    A gap that was asked for and is met has words of its own.
     """
     is_within = code == Code.SOLVED and verdict.claim == "within"
     return WORDS_OF_GAP if is_within and answer.found.is_gap else WORDS[code]

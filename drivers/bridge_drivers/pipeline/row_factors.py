@@ -62,9 +62,7 @@ def factors_of(bridge: Bridge, nl: str, rows: Sequence[str], objective: int = 0)
 
 
 def has_division(nl: str) -> bool:
-    """Whether an .nl text has a line `o3`, the operator of a division, in any expression; leading
-    zeros do not matter.
-    """
+    """Whether an .nl text has a line `o3` (or `o03`), the operator of a division."""
     with open(nl, "rb") as file:
         text = file.read()
     place = text.find(b"\no")

@@ -1,7 +1,8 @@
 """One run, from the source of a model to its outcome.
 
-`SolveRun` finds the programs, reads the model and makes the folder in which an `AnsweredRun` goes on.
-The drivers and the calls of the package make one each time; `solve_model` is the same in one call.
+`SolveRun` finds the programs, reads the model and makes the folder in which an `AnsweredRun` goes
+on. The drivers and the calls of the package make one each time; `solve_model` is the same in one
+call.
 """
 
 from __future__ import annotations
@@ -75,8 +76,7 @@ def solve_model(source: Source, settings: Settings, monitor: Monitor | None = No
 
 
 def write_solver_input(source: Source, settings: Settings, overwrite: bool, named: str) -> Outcome:
-    """Writes the MPS text that a solver reads into STUB.SOLVER.mps beside the model; nothing is
-    solved.
+    """Writes the MPS text that a solver reads into STUB.SOLVER.mps, and solves nothing.
 
     Args:
         source: The model.
@@ -219,9 +219,12 @@ class SolveRun:
                     shutil.rmtree(folder, ignore_errors=True)
 
     def _finished(self, outcome: Outcome, kept_folder: str) -> Outcome:
-        """Sets what the whole run has to tell: in `kept_folder` and in the message where files are kept.
+        """Sets the outcome's `kept_folder`.
 
-        Where the outcome has no answer to return, the command's name is put in front of the message.
+        A line tells it where it is not the folder that was named itself.
+
+        Where the outcome has no answer to return, the command's name is put in front of the
+        message.
 
         Args:
             outcome: Is changed.
@@ -260,8 +263,7 @@ class SolveRun:
         return AnsweredRun(self.solver, settings, run, judge, notes).outcome()
 
     def _read(self) -> ReadProgram | Outcome:
-        """The program that is exported; an outcome where the proved program refuses an empty
-        interval.
+        """The program that is exported, or the outcome where an empty interval refuses the model.
 
         Where files in between are kept, the model's text is copied there.
 
@@ -312,8 +314,9 @@ class SolveRun:
         return self.source.path, []
 
     def _exported(self, path: str) -> LinearProgram:
-        """What the proved program makes of the file, with the user's own names and the seconds told
-        to the monitor.
+        """What the proved program makes of the file, with the user's own names.
+
+        The monitor is told the seconds.
 
         Args:
             path: That of the text which the proved program reads.
@@ -337,8 +340,9 @@ class SolveRun:
         return program
 
     def _refused(self, fault: Refusal, path: str) -> Outcome:
-        """The outcome of a model that is refused for an empty interval: it is infeasible, and
-        nothing is proved; with `strict` that has code 100.
+        """The outcome of a model that is refused for an empty interval.
+
+        It is infeasible, and nothing is proved; with `strict` that has code 100.
 
         Args:
             fault: The refusal.
@@ -365,8 +369,9 @@ class SolveRun:
 
 
 def _keep_copy(path: str, target: str) -> None:
-    """Copies the model's text into a folder that is kept, unless it stands there; MiniZinc, for
-    one, removes its file.
+    """Copies the model's text into a folder that is kept, unless it stands there.
+
+    MiniZinc, for one, removes its file.
 
     Args:
         path: Of the text that the proved program reads.

@@ -62,8 +62,9 @@ class ModelStatistics:
         return statistics_lines(self.statistics, self.factors, self.names) + self.notes
 
     def values(self) -> Dict[str, object]:
-        """The same for programs, as the key `stats` of report.schema.json: counts, and ranges in
-        doubles.
+        """The same for programs, as the key `stats` of report.schema.json.
+
+        Counts are whole numbers, ranges doubles.
         """
         found = self.statistics
         factor = found.epigraph_factor
@@ -93,8 +94,9 @@ class ModelStatistics:
         }
 
     def _by_own_names(self, lost: LostNumber) -> LostNumber:
-        """The same number, its row and column (c and x with a number) told by the names that an MPS
-        file gives them.
+        """The same number with its row and column by the names that an MPS file gives them.
+
+        In the text they are c and x with a number.
         """
         lists = {"c": self.names.row, "x": self.names.column}
         words = [
@@ -149,15 +151,17 @@ def range_line(sizes: Collection[Exact]) -> str:
 
 
 def _list_line(items: List[str], what: str = "") -> str:
-    """How many items there are, with `what` behind the number, and the first MOST_NAMED of them;
+    """How many items there are, `what` behind the number, and the first MOST_NAMED of them.
+
     `none` of none.
     """
     return f"{len(items)}{what}: {first_of(items, MOST_NAMED)}" if items else "none"
 
 
 def _range_held(sizes: Collection[Exact]) -> Range | None:
-    """The least and the largest size in doubles; None where there are no sizes, or an end is beyond
-    doubles.
+    """The least and the largest size in doubles.
+
+    None where there are no sizes, or an end is beyond doubles.
     """
     ends = range_in_doubles(sizes)
     return ends if ends and None not in ends else None
@@ -169,9 +173,7 @@ def _sense(found: Statistics) -> str:
 
 
 def _sense_line(found: Statistics) -> str:
-    """The sense in words, with the objective's constant, or where a nonlinear objective is tied to
-    the column z.
-    """
+    """The sense in words, with the objective's constant, or what a nonlinear one is tied to."""
     line = _sense(found) + ("" if found.costs else ", no objective but a constant")
     if found.epigraph_factor is not None:
         return f"{line}; tied to column z by row zdef, times {found.epigraph_factor}"
@@ -179,7 +181,5 @@ def _sense_line(found: Statistics) -> str:
 
 
 def _row_name(row: str, names: NameLists) -> str:
-    """A row's name in the exported text (c and a number), and behind it the user's own where there
-    is one.
-    """
+    """A row's name in the exported text (c and a number), and behind it the user's own."""
     return numbered_name(row, names.row(int(row[1:])) if row[1:].isdigit() else "")

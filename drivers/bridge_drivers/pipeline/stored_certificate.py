@@ -80,8 +80,7 @@ class CertificateStore:
         return StoredCertificate("no certificate is written" + stays)
 
     def still_proves(self, target: str, line: str) -> str:
-        """What an older certificate proves of the model as it is now, where that is no less than
-        the line.
+        """What an older certificate proves of the model as it is now, if no less than a line.
 
         Args:
             target: The path of the older one, which has OLDER_SECONDS to be judged.

@@ -292,9 +292,7 @@ def answer_of_status(told: ToldStatus | None, words: str, *, has_point: bool) ->
 
 
 def within_gap(answer: SolverAnswer) -> None:
-    """Changes an optimal answer into one of a search that a gap may have ended: a feasible
-    point.
-    """
+    """Changes an optimal answer into a feasible one, of a search that a gap may have ended."""
     answer.status = SolverStatus.FEASIBLE
     answer.text = GAP_SOLUTION
     answer.is_gap = True

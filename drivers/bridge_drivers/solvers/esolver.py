@@ -72,10 +72,11 @@ class Esolver(Solver):
         return [*limit, *settings.arguments]
 
     def solve(self, run: SolverRun) -> SolverAnswer:
-        """Calls esolver, and reads its answer by the status there, else by the limits in its log.
+        """Calls esolver, and reads its answer by the status in the file's first line.
 
-        A run that had a time limit, or was killed, and says nothing clear counts as stopped at it.
-        Raises as `Solver.solve`.
+        Where it wrote no file, any word of STATUSES in its log counts as the time limit. A run that
+        had a time limit, or was killed, and says nothing clear counts as stopped at it. Raises as
+        `Solver.solve`.
         """
         solution = run.path("answer.sol")
         basis_file = run.path("answer.bas")

@@ -131,8 +131,9 @@ class Glpsol(Solver):
         return [*words, *settings.arguments]
 
     def solve(self, run: SolverRun) -> SolverAnswer:
-        """Calls glpsol, and reads its file and its log; asked once more, it checks its basis
-        exactly.
+        """Calls glpsol, and reads its file and its log.
+
+        Asked once more, it checks its basis in exact arithmetic. Raises as `Solver.solve`.
         """
         path = run.write("glpsol.mps", self.mps_text(run.written))
         words = [*self.reading_arguments(run.program, path), "-w", run.path("answer.txt")]

@@ -48,6 +48,7 @@ class DoubleArrays:
     """
 
     def __init__(self, program: LinearProgram) -> None:
+        """Of a program as solvers read it; costs are turned so that they are minimised."""
         rows = program.matrix
         self.sign = -1.0 if program.maximise else 1.0
         self.row_lower = program.row_lower
@@ -65,7 +66,9 @@ class DoubleArrays:
 
 
 def options_of(words: Words) -> Dict[str, Any]:
-    """The options that SciPy's two functions have in common, of the words' names."""
+    """The options that `milp` and `linprog` have in common: log, presolve, and the limit in
+    seconds.
+    """
     limit = {"time_limit": words["seconds"]} if words["seconds"] else {}
     return {"disp": words["disp"], "presolve": words["presolve"], **limit}
 
@@ -136,7 +139,10 @@ def solve_lp(arrays: DoubleArrays, words: Words) -> Dict[str, Any]:
 
 
 def main() -> None:
-    """Reads the program and the words, solves, and writes the answer; the log goes before it."""
+    """Reads the program and the words, solves, and writes the answer's JSON text.
+
+    The version of SciPy and the log go to standard output before it.
+    """
     signal.signal(signal.SIGINT, signal.SIG_DFL)  # HiGHS keeps no point where it is ended
     with open(sys.argv[1], "rb") as source:
         arrays = DoubleArrays(LinearProgram.of(source.read()))

@@ -1,4 +1,4 @@
-"""A basis in MPS format, as CLP and QSopt_ex write it."""
+"""A basis in MPS format, as CLP, CBC and QSopt_ex write it into a file; read into `BasisStatus`."""
 
 from __future__ import annotations
 

@@ -37,9 +37,7 @@ class RunObserver:
     """Is told what a run does. What is not overridden is not wanted. See `pipeline.monitor`."""
 
     def command_starts(self, argv: Sequence[str], folder: str) -> None:
-        """A process is about to start with these words in a folder, whose files have plain
-        names.
-        """
+        """A process is about to start with these words in a folder; its files have plain names."""
 
     def stage_begins(self, stage: str, limit: float) -> None:
         """Something is worked at from now on.
@@ -97,7 +95,10 @@ class SolverRun:
         self.exit_status = 0
 
     def is_continuous(self) -> bool:
-        """Whether no column has to be a whole number."""
+        """Whether no column has to be a whole number: there is none, or they are relaxed.
+
+        Only then are duals and a basis asked for.
+        """
         return not self.program.integer_count or self.settings.relax
 
     def path(self, name: str) -> str:

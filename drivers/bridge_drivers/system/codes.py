@@ -34,7 +34,10 @@ class Code(enum.IntEnum):
 
 
 class ExitStatus(enum.IntEnum):
-    """How a command ends. A driver that is called with -AMPL has 0 wherever a .sol stands."""
+    """How a command ends. A driver that is called with -AMPL has 0 wherever a .sol stands.
+
+    From 129 on it is 128 and the number of the signal that ended it.
+    """
 
     DONE = 0
     FAILED = 1

@@ -35,7 +35,7 @@ class Deadline:
         return cls(limit or math.inf)
 
     def spent(self) -> float:
-        """Seconds since its start."""
+        """Seconds since its start, or since it was restarted, by its clock."""
         return self._clock() - self._start
 
     def left(self) -> float:

@@ -36,7 +36,7 @@ class BridgeError(Exception):
 
     @property
     def code(self) -> int | None:
-        """AMPL's code where a driver failed; None of other calls."""
+        """AMPL's code where a driver failed; None of other calls, or without a report."""
         return None if self.report is None else self.report.code
 
     @property
@@ -63,10 +63,12 @@ class Damaged(ModelRefused):
     """A packed or binary file, at `path`, that cannot be read."""
 
     def __init__(self, path: str, reason: str) -> None:
+        """Of a file at `path`; the reason is a clause that can stand behind it."""
         super().__init__(reason)
         self.path = path
 
     def describe(self) -> str:
+        """The path, and the reason behind a colon."""
         return f"{self.path}: {self.reason}"
 
 
@@ -74,23 +76,32 @@ class TooLarge(ModelRefused):
     """A source that goes on past its limit; `size` bytes were read of it until then."""
 
     def __init__(self, path: str, size: int) -> None:
+        """Of a file at `path`, as the user calls it, and the bytes that were read of it."""
         super().__init__(f"it is larger than is read, {size} bytes or more")
         self.path = path
         self.size = size
 
     def describe(self) -> str:
+        """The path, and the reason behind a colon."""
         return f"{self.path}: {self.reason}"
 
 
 class TakesNoIntegers(ModelRefused):
-    """The solver takes no integer variables, and the model has some."""
+    """The solver takes no integer variables, and the model has some.
+
+    Attributes:
+        solver: Its title.
+        integers: How many the model has.
+    """
 
     def __init__(self, solver: str, integers: int) -> None:
+        """Of the solver's title, and the count of integer variables."""
         super().__init__(f"the model has {integers} integer variables")
         self.solver = solver
         self.integers = integers
 
     def describe(self) -> str:
+        """What the solver does not take, and the option that drops it."""
         return (
             f"{self.solver} takes no integer variables, and the model has {self.integers}; "
             "relax=1 drops that they are whole"
@@ -107,10 +118,12 @@ class WrongWords(WrongOption):
     """Words that no command takes; `meant` is ` did you mean ..?`, or ""."""
 
     def __init__(self, reason: str, meant: str = "") -> None:
+        """Of the reason, and of ` did you mean ..?`; "" where nothing was meant."""
         super().__init__(reason)
         self.meant = meant
 
     def describe(self) -> str:
+        """The reason, what was probably meant, and where commands are listed."""
         return f"{self.reason};{self.meant} -h lists the commands"
 
 
@@ -122,7 +135,12 @@ class FileAction(enum.Enum):
 
 
 class FileFault(BridgeError):
-    """A file cannot be read or written; `path` is empty where the reason names it."""
+    """A file cannot be read or written.
+
+    Attributes:
+        path: Of the file; "" where the reason names it.
+        action: What was tried with it.
+    """
 
     def __init__(self, path: str, reason: str, action: FileAction) -> None:
         """Of what was tried with a file, which sets `status`.
@@ -138,6 +156,7 @@ class FileFault(BridgeError):
         self.status = action.value
 
     def describe(self) -> str:
+        """The path and the reason; the reason alone where there is no path."""
         return f"{self.path}: {self.reason}" if self.path else self.reason
 
     @staticmethod
@@ -156,6 +175,7 @@ class FileStays(FileFault):
     """What stands at a place is not replaced, and nothing is written there."""
 
     def __init__(self, path: str, reason: str) -> None:
+        """Of an output's path, and why what stands there stays (`system.files.WhyItStays`)."""
         super().__init__(path, reason, FileAction.WRITE)
 
 
@@ -163,9 +183,11 @@ class NoModel(FileFault):
     """The word of a call names no model; the reason is a whole sentence on what stands there."""
 
     def __init__(self, word: str, reason: str) -> None:
+        """Of the word as the user gave it, and a whole sentence."""
         super().__init__(word, reason, FileAction.READ)
 
     def describe(self) -> str:
+        """The reason alone, which is a whole sentence."""
         return self.reason
 
 
@@ -185,12 +207,16 @@ class NotFound(NotInstalled):
     """
 
     def __init__(self, program: str, remedy: str, other: str = "") -> None:
+        """Of the name of what was not found, what helps, and the path of another program of that
+        name.
+        """
         super().__init__("was not found")
         self.program = program
         self.remedy = remedy
         self.other = other  # a program of the same name that is another one
 
     def describe(self) -> str:
+        """What was not found, another program of its name, and the remedy."""
         other = f" ({self.other} is another program)" if self.other else ""
         return f"{self.program} was not found{other}: {self.remedy}"
 
@@ -204,11 +230,13 @@ class NotStarted(NotInstalled):
     """
 
     def __init__(self, program: str, reason: str, tried: str = "run") -> None:
+        """Of the program's path, why it cannot be run, and what was tried: a participle."""
         super().__init__(reason)
         self.program = program
         self.tried = tried
 
     def describe(self) -> str:
+        """What could not be done with which program, and why."""
         return f"{self.program} could not be {self.tried}: {self.reason}"
 
 
@@ -220,17 +248,19 @@ class SolverFailed(BridgeError):
     """
 
     def __init__(self, solver: str, reason: str) -> None:
+        """Of the solver's title, and the reason."""
         super().__init__(reason)
         self.solver = solver
 
     def describe(self) -> str:
+        """The solver, and the reason behind a colon."""
         return f"{self.solver}: {self.reason}"
 
 
 class UnclearAnswer(BridgeError):
     """What a solver wrote is no answer, or is not understood.
 
-    A class of `solvers` raises it; the run makes an `UnusableAnswer` of it, or asks once more.
+    The classes of `solvers` raise it; `pipeline.answered_run` makes an `UnusableAnswer` of it.
     """
 
 
@@ -242,10 +272,14 @@ class UnusableAnswer(SolverFailed):
     """
 
     def __init__(self, solver: str, reason: str, ended_by: str = "") -> None:
+        """Of the solver's title, the reason, and the name of the signal that ended it; "" for
+        none.
+        """
         super().__init__(solver, reason)
         self.ended_by = ended_by
 
     def describe(self) -> str:
+        """The solver, the reason, and the signal that ended it where one did."""
         ended = f"; it was ended by {self.ended_by}" if self.ended_by else ""
         return f"{self.solver} gave no usable answer: {self.reason}{ended}"
 
@@ -261,6 +295,7 @@ class NotReturned(BridgeError):
     """`bridge return` does not take the solver's answer, so that there is no .sol of it."""
 
     def describe(self) -> str:
+        """The reason behind the name of the command."""
         return f"return: {self.reason}"
 
 
@@ -268,6 +303,7 @@ class DriverFault(BridgeError):
     """A fault of the drivers themselves: an exception of no other class, told by its `repr`."""
 
     def describe(self) -> str:
+        """The reason, and the option that shows where it was."""
         return f"a fault of the driver: {self.reason} (outlev=2 shows where)"
 
 
@@ -279,6 +315,7 @@ class RunInterrupted(BridgeError):
     """
 
     def __init__(self, number: int) -> None:
+        """Of the signal's number; sets `status`."""
         super().__init__("interrupted")
         self.number = number
         self.status = ExitStatus(128 + number)
@@ -297,7 +334,7 @@ class SearchEnded(BridgeError):
 
 
 class SearchPaused(SearchEnded):
-    """The time or the nodes that a search had are over: it can go on."""
+    """The time or the nodes that a search had are over: given more, it can go on."""
 
 
 class DeadlineExceeded(SearchPaused):
@@ -331,7 +368,7 @@ class NotSolved(BridgeError):
 
 
 class TooManyBits(BridgeError):
-    """A solution needs numerators and denominators of more than `bits` bits."""
+    """A solution needs numerators and denominators of more than `bits` bits; it is given up."""
 
     def __init__(self, bits: int) -> None:
         super().__init__(f"more than {bits} bits")
@@ -347,6 +384,7 @@ class SolveInterrupted(KeyboardInterrupt):
     """
 
     def __init__(self, report: Any) -> None:
+        """Of the report of the call that was interrupted, whose text is the error's."""
         super().__init__(report.text)
         self.report = report
 
@@ -363,7 +401,9 @@ class Interrupted(BaseException):
         self.number = number
 
     def status(self) -> int:
-        """The exit status of a process that a signal ended, as a shell tells it."""
+        """The exit status of a process that a signal ended, as a shell has it: 128 and its
+        number.
+        """
         return 128 + self.number
 
 

@@ -227,7 +227,8 @@ def new_file(path: str, *, append: bool = False) -> Iterator[BinaryIO]:
         append: Writes behind what the file has.
 
     Raises:
-        OSError: It cannot be written; it names the file. Those of the block are told so, too.
+        OSError: It cannot be written; it names the file. One of the block that names none gets this
+            name, too.
     """
     with _named_fault(path), open(path, "ab" if append else "wb") as out:
         yield out
@@ -298,6 +299,7 @@ def _new_part_file(place: str, mode: int | None) -> BinaryIO:
     bits = MODE_OF_NEW_FILES if mode is None else mode & MODE_OF_NEW_FILES
 
     def opener(path: str, flags: int) -> int:
+        """Opens it with its final permissions, and not through a link."""
         return os.open(path, flags | getattr(os, "O_NOFOLLOW", 0), bits)
 
     for number in itertools.count(os.getpid()):

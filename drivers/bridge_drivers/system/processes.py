@@ -215,10 +215,10 @@ def _guard_of(child: subprocess.Popen[bytes]) -> Optional[subprocess.Popen[bytes
 def _interrupts_to(
     child: subprocess.Popen[bytes], on_interrupt: Optional[Callable[[], None]]
 ) -> Iterator[None]:
-    """A block whose first interrupt is told, and sent to the child's group, where somebody is told.
+    """A block whose first interrupt goes to the child's group, where somebody is told of it.
 
     Args:
-        on_interrupt: None: interrupts are as outside of the block.
+        on_interrupt: Is told of the interrupt; None: interrupts are as outside of the block.
     """
     if on_interrupt is None:
         yield
@@ -226,6 +226,7 @@ def _interrupts_to(
     told = on_interrupt
 
     def pass_on() -> None:
+        """Tells of the interrupt, and sends it to the child's group."""
         told()
         signal_group(child, signal.SIGINT)
 
@@ -305,6 +306,7 @@ class _Reader:
     """
 
     def __init__(self, stream: IO[bytes], sinks: Sequence[Sink]) -> None:
+        """Of a stream of a process, which is made not to wait when it is read."""
         self.number = stream.fileno()
         self.sinks = sinks
         waits = False
@@ -343,6 +345,7 @@ class _Memory:
     """
 
     def __init__(self, most: int) -> None:
+        """Of how many bytes are held at most, in both halves together."""
         self.most_of_half = most // 2
         self.first = bytearray()
         self.last: Deque[bytes] = collections.deque()
@@ -350,9 +353,7 @@ class _Memory:
         self.dropped = 0  # bytes between both
 
     def add(self, data: bytes) -> None:
-        """Holds a piece of the stream; the oldest pieces of a last half that is too long are
-        dropped.
-        """
+        """Holds a piece of the stream; the oldest pieces of a last half that is too long go."""
         room = self.most_of_half - len(self.first)
         self.first += data[:room]
         rest = data[room:]
@@ -381,6 +382,7 @@ class _Lines:
     """
 
     def __init__(self, on_line: Optional[Callable[[str], None]], most: int) -> None:
+        """Of who is told, and how many bytes of a line are told at once."""
         self.on_line = on_line
         self.most = most
         self.rest = b""
@@ -417,6 +419,7 @@ class _Log:
     """
 
     def __init__(self, file: BinaryIO, most: int) -> None:
+        """Of an open file, and how many bytes it takes at most."""
         self.file = file
         self.room = most
 

@@ -24,6 +24,7 @@ class Progress:
     """
 
     def __init__(self) -> None:
+        """No stage yet."""
         self.stage = ""
         self.limit = 0.0
         self.detail = ""

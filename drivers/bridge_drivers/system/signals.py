@@ -34,6 +34,7 @@ class SignalGate:
     """
 
     def __init__(self) -> None:
+        """A gate that delivers, and handles no signal yet; see `install`."""
         self.is_deferring = False
         self.is_ending = False
         self.pending = 0
@@ -91,7 +92,8 @@ class SignalGate:
     def _deferring(self, *, is_deferring: bool) -> Iterator[None]:
         """A block with another `is_deferring`, which is set back at its end.
 
-        What waits is delivered at its start and, where it did not raise, at its end.
+        What waits is delivered at its start (where that raises, nothing is set back) and, unless
+        the block raised, behind its end.
         """
         before = self.is_deferring
         self.is_deferring = is_deferring

@@ -26,7 +26,10 @@ def printable(text: str) -> str:
 
 
 def one_line(text: str) -> str:
-    """The same of a word or a line, in which ends of lines and tabs are escaped too."""
+    r"""The text with its controls escaped as `\x1b`, and ends of lines and tabs too.
+
+    For names, words and lines of a model or a solver that stand in a message.
+    """
     return LINE_CONTROLS.sub(_escaped, printable(text))
 
 
