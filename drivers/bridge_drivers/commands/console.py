@@ -347,7 +347,9 @@ def _open_closed_streams() -> None:
 
 def _text_stream(number: int) -> TextIO:
     """A text in UTF-8 over an open file by its number, which stays open at its end."""
-    return io.TextIOWrapper(io.FileIO(number, "wb", closefd=False), encoding="utf-8")
+    # by way of a buffer: an empty text is no write to an output that was closed
+    buffer = io.BufferedWriter(io.FileIO(number, "wb", closefd=False))
+    return io.TextIOWrapper(buffer, encoding="utf-8")
 
 
 def _lead_output_nowhere() -> None:
