@@ -9,6 +9,7 @@ the PATH.
 from __future__ import annotations
 
 import os
+import signal
 from pathlib import Path
 from typing import Iterator
 
@@ -18,11 +19,21 @@ from running.places import installed_solvers, program, why_missing
 from running.workspace import Workspace
 
 SECONDS_OF_A_TEST = 900.0  # on a machine that has much else to do
+TRIED_SIGNALS = (signal.SIGHUP, signal.SIGQUIT, signal.SIGTERM)
 
 
 @pytest.hookimpl(tryfirst=True)
 def pytest_configure(config: pytest.Config) -> None:
-    """Each test has a limit where pytest-timeout is there; SIGALRM is the search's own."""
+    """Signals do what they do in a shell, and each test has a limit where pytest-timeout is there.
+
+    Where this run was started in the background, or by nohup, some signals are ignored, and would
+    be by all commands that tests start.
+    """
+    if signal.getsignal(signal.SIGINT) is signal.SIG_IGN:
+        signal.signal(signal.SIGINT, signal.default_int_handler)
+    for number in TRIED_SIGNALS:
+        if signal.getsignal(number) is signal.SIG_IGN:
+            signal.signal(number, signal.SIG_DFL)
     if config.pluginmanager.hasplugin("timeout") and config.option.timeout is None:
         config.option.timeout = SECONDS_OF_A_TEST
         config.option.timeout_method = "thread"

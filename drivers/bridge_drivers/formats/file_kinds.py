@@ -13,6 +13,7 @@ import gzip
 import lzma
 import os
 import re
+import zlib
 from typing import BinaryIO, Callable, Dict, List, Mapping, NamedTuple, Optional, Tuple, cast
 
 LOOKED_AT = 4096  # bytes of a file's start that tell what it is
@@ -212,17 +213,16 @@ def kind_of_start(start: bytes) -> Optional[FileKind]:
 
 
 def start_of_file(path: str) -> bytes:
-    """The first LOOKED_AT bytes of a plain file, unpacked; none where it cannot be read.
+    """The first LOOKED_AT bytes of a plain file, unpacked.
 
-    Raises:
-        zlib.error: It is packed by gzip, and damaged behind its head.
+    None of them where it cannot be read, or what is packed in it is damaged.
     """
     try:
         with open(path, "rb") as file:
             packing = packing_of(file.read(6))
             file.seek(0)
             return (packing.unpack(file) if packing else file).read(LOOKED_AT)
-    except (OSError, EOFError, ValueError, lzma.LZMAError):
+    except (OSError, EOFError, ValueError, lzma.LZMAError, zlib.error):
         return b""
 
 

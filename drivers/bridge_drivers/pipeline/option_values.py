@@ -199,7 +199,7 @@ def checked_values(solver: str, given: Mapping[str, object]) -> Dict[str, Any]:
             continue
         try:
             values[name] = kinds[name].take(value)
-        except (TypeError, ValueError):
+        except (TypeError, ValueError, OverflowError):
             raise WrongOption(f"{name}={value!r}: {kinds[name].title} is wanted") from None
     return values
 

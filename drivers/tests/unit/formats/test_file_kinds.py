@@ -18,6 +18,7 @@ from bridge_drivers.formats.file_kinds import (
     is_mps_file,
     is_mps_start,
     kind_of_file,
+    start_of_file,
     stub_of,
 )
 from timing import assert_linear
@@ -154,3 +155,10 @@ def test_a_hostile_file_beside_a_model(tmp_path: Path) -> None:
 )
 def test_a_model_is_known_by_its_start(start: bytes, kind: object) -> None:
     assert file_kinds.model_kind_of_start(start) is kind
+
+
+def test_a_damaged_packed_file_has_no_start(tmp_path: Path) -> None:
+    packed = gzip.compress(FIXED, mtime=0)
+    path = tmp_path / "m.mps.gz"
+    path.write_bytes(packed[:12] + b"\xff" * 20)
+    assert start_of_file(str(path)) == b""

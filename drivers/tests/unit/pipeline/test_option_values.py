@@ -32,6 +32,8 @@ from bridge_drivers.system.errors import WrongOption
         ("timelim", -1),
         ("timelim", float("nan")),
         ("timelim", float("inf")),
+        ("timelim", 10**400),
+        ("jobs", float("inf")),
         ("format", "fix"),
         ("certificate", 3),
         ("bridge", 3),
