@@ -412,17 +412,21 @@ def _run_proved_program(
         ended = processes.run([*place, *call], Deadline(), streams=streams)
     except OSError as fault:
         raise NotStarted(place[0], str(fault.strerror)) from None
-    output = ended.output.decode("utf-8", "surrogateescape")
+    _print_output(ended.output.decode("utf-8", "surrogateescape"), console, is_coloured=is_coloured)
     told = ended.errors.decode("utf-8", "surrogateescape").rstrip("\n")
-    if is_coloured and output.strip():
-        console.verdict(output.rstrip("\n"))
-    elif output:
-        console.output(output)
     if ended.status == ExitStatus.UNREAD and has_fault:
         told = f"{NAME}: {why_unreadable(files, dict(zip(files, files_of_call(words))))}"
     if told:
         console.error(told)
     return ended.status
+
+
+def _print_output(output: str, console: Console, *, is_coloured: bool) -> None:
+    """Prints what the proved program wrote, a verdict in its colour; nothing where that is empty."""
+    if is_coloured and output.strip():
+        console.verdict(output.rstrip("\n"))
+    elif output:
+        console.output(output)
 
 
 def main() -> None:

@@ -10,7 +10,7 @@ from __future__ import annotations
 import os
 import tempfile
 from fractions import Fraction
-from typing import Dict, NamedTuple, Sequence
+from typing import Dict, Mapping, NamedTuple, Sequence
 
 from ..system.files import write_new
 from ..model.integer_form import IntegerProgram
@@ -89,10 +89,21 @@ def whole_form(bridge: Bridge, nl: str, program: LinearProgram) -> WholeForm:
     names = [name for name in program.names.rows if name != EPIGRAPH_ROW]
     if not program.is_exported:
         return WholeForm(IntegerProgram.of(program, {}, len(names)), {})
-    texts = factors_of(bridge, nl, names)
+    factors = whole_factors(factors_of(bridge, nl, names))
+    return WholeForm(IntegerProgram.of(program, factors, read_header(nl).constraints), factors)
+
+
+def whole_factors(texts: Mapping[str, str]) -> Dict[int, int]:
+    """By constraint, the factors that are above 1.
+
+    Args:
+        texts: By the row's exported name (`c3` of constraint 3), its factor as a decimal.
+
+    Raises:
+        UnsupportedModel: A factor is not whole, or below 0.
+    """
     known = {text: Fraction(text) for text in set(texts.values())}  # most rows have the same one
     if any(factor.denominator != 1 or factor < 0 for factor in known.values()):
         raise UnsupportedModel("a row's factor is not whole")
     large = {text: int(factor) for text, factor in known.items() if factor > 1}
-    factors = {int(row[1:]): large[text] for row, text in texts.items() if text in large}
-    return WholeForm(IntegerProgram.of(program, factors, read_header(nl).constraints), factors)
+    return {int(row[1:]): large[text] for row, text in texts.items() if text in large}
