@@ -304,6 +304,8 @@ class IterativeRefinement:
     def _basis_of(self, clp: Clp) -> Basis:
         """CLP's basis in terms of the program: a row of `slack_rows` is basic where its column is.
 
+        As in `Basis`, its columns are those that are basic, and its rows those that are not.
+
         Args:
             clp: The program of a round, solved.
         """

@@ -157,9 +157,10 @@ def claim_lines(
 
 
 def lines_of_answer(values: Sequence[str], duals: Sequence[str], objective: int) -> Iterator[str]:
-    """The certificate that an answer is itself: its values are the point, its duals the one leaf.
+    """The certificate with an answer's own numbers: its values are the point, its duals the leaf.
 
-    It claims `optimal`, without duals `feasible`; `0` and `-0` are not written.
+    The pipeline has it judged to learn what is true of a solver's answer, or of the values of a
+    .sol. It claims `optimal`, without duals `feasible`; `0` and `-0` are not written.
 
     Args:
         values: Texts of decimals, by column.

@@ -133,8 +133,12 @@ class Strategy:
     proved_value: Optional[Fraction] = None
 
     def estimated_seconds(self) -> float:
-        """Seconds that are left, at least LEAST_ESTIMATE, by the share of the tree that is proved
-        so far; by `first_estimate`, which may be infinite, where none is."""
+        """The seconds that this strategy still needs, for the portfolio's choice of the next turn.
+
+        By the share of the tree that is proved so far; where none is, all of `first_estimate`,
+        which may be infinite. At least LEAST_ESTIMATE, times `correction`, which is more than 1
+        where earlier estimates were too low.
+        """
         share = self.search.proved_share()
         rest = self.spent * (1 - share) / share if share else self.first_estimate
         return max(rest, LEAST_ESTIMATE) * self.correction

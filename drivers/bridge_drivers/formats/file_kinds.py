@@ -56,6 +56,8 @@ class Packing(enum.Enum):
     def unpack(self, packed: BinaryIO) -> BinaryIO:
         """The stream of what is packed in a stream, which unpacks as it is read.
 
+        `start_of_file` looks at its first bytes, and `formats.source` copies all of it.
+
         A damaged stream raises when it is read: OSError, EOFError, ValueError, or the errors of
         zlib and lzma.
         """

@@ -272,8 +272,11 @@ class IntegerProgram:
         """Whether a point has whole values where it must, and keeps to all bounds and rows:
         exactly.
 
+        Each point that the search finds is asked here before it counts as an incumbent, and so are
+        rays, of the recession cone.
+
         Args:
-            x: By column.
+            x: By column, as it stands in a certificate: the values themselves, over no scale.
         """
         if any(v.denominator != 1 for v, is_integer in zip(x, self.is_integer) if is_integer):
             return False

@@ -283,7 +283,10 @@ class SparseRows:
 
     @cached_property
     def _digits(self) -> List[Tuple[int, NDArray[np.float64]]]:
-        """The coefficients by digits (`split_digits`): each with its shift, in doubles by entry."""
+        """The whole coefficients by digits (`split_digits`): sums of these are exact in doubles.
+
+        Each digit stands with its shift in bits; its doubles are by entry. `_exact_sums` uses them.
+        """
         numbers = self.entries.numbers
         return [
             (shift, np.array(digits, dtype=np.float64)[numbers])

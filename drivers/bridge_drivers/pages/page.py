@@ -48,11 +48,11 @@ class PageFacts(NamedTuple):
 
 
 def html_page(facts: PageFacts, wording: Wording, picture: Optional[TreePicture]) -> str:
-    """The text of the page.
+    """The text of the page that `nl-bridge explain --html` writes; `pages.explanation` asks for it.
 
     Args:
         facts: What it says of files and of the verdict.
-        wording: Of the certificate.
+        wording: Makes the sentences on the certificate, in the names of the file.
         picture: Of its tree; None where it has none.
     """
     point = wording.certificate.point or {}

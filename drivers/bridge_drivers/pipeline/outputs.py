@@ -1,7 +1,8 @@
 """The numbers of an outcome by the names of the file, and the files that are made of an outcome:
 MODEL.sol and a table of the solution.
 
-The drivers, MiniZinc's command and the calls of the package use it, after `solve`.
+The drivers, MiniZinc's command and the calls of the package use it after `solve`, and
+`remove_older_sol` before.
 """
 
 from __future__ import annotations
@@ -131,7 +132,11 @@ def write_sol(source: Source, data: bytes) -> None:
 def remove_older_sol(source: Source) -> None:
     """Removes a .sol beside the model: it must not pass for that of a run that begins.
 
-    Where the model cannot be read it stays.
+    A driver that is to write a .sol calls it before it solves. Where the model cannot be read it
+    stays.
+
+    Raises:
+        FileFault: It cannot be removed.
     """
     if os.path.isfile(source.path) and os.access(source.path, os.R_OK):
         OutputFiles([source.path], model_kind_of_start).remove(source.stub + ".sol")

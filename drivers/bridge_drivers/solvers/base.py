@@ -146,7 +146,10 @@ class Solver:
         return list(settings.arguments)
 
     def find(self, named: str = "") -> str | None:
-        """The path of the executable; None where it is not found.
+        """The path of the executable, which may be relative; None where it is not found.
+
+        A run asks it once, before the model is read (`SolveRun.find_solver` makes it absolute), and
+        so do the words on which solvers are installed.
 
         Args:
             named: What the user gave, a path or a name on the PATH; "": that of the class is looked
