@@ -38,7 +38,7 @@ def test_each_node_has_a_box() -> None:
         ["11", "x1 \u2265 1", "no point", "rows contradict (1)"],
         ["13", "x0 \u2265 1", "no point", "rows contradict (1)"],
     ]
-    assert len(root.findall(SVG + "path")) == 6 + 1  # a curve to each branch, and the paper
+    assert len(root.findall(SVG + "path")) == 6 + 1  # a curve to each branch, and the background
 
 
 def test_a_cut_and_its_proof() -> None:
