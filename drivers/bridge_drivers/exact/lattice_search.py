@@ -190,7 +190,7 @@ class HermiteForm:
             for j in left:
                 if j != least:
                     self._subtract(j, least, self._matrix[j][row] // self._matrix[least][row])
-            if max(map(abs, self.unimodular[least])) > LARGEST_NUMBER:
+            if max(abs(v) for v in self.unimodular[least]) > LARGEST_NUMBER:
                 return False
 
     def _subtract(self, column: int, other: int, factor: int) -> None:
