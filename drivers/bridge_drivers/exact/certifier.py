@@ -29,7 +29,7 @@ from .evidence import (
 from .integer_certifier import IntegerCertifier
 from .linear_certifier import LinearCertifier
 from .refutations import Refuter
-from .search_deadline import KEPT_SECONDS, SearchDeadline, SearchProgress
+from .search_deadline import SearchDeadline, SearchProgress
 from .task import CertificationTask, SearchOptions
 from .work_limit import limit_work
 from .worker_pools import WorkerPool
@@ -106,7 +106,7 @@ class Certifier:
         Where CLP is not installed or a search ended, that is the reason why nothing is proved.
         """
         try:
-            limit_all_work(Deadline(self.task.deadline.left_to_find()))
+            limit_all_work(self.task.deadline.to_find())
             return self._tried(claim)
         except (TimeOver, DeadlineExceeded):
             found = self._with_optimality_in_doubles(first_proved(self._known()))
@@ -230,7 +230,7 @@ class Certifier:
         """
         limit_all_work(Deadline())
         yield from self.integer.claim_known_tree()
-        limit_all_work(Deadline(self.task.deadline.left_of_all() - KEPT_SECONDS))
+        limit_all_work(self.task.deadline.to_find_at_last())
         with contextlib.suppress(TimeOver, SearchEnded):
             self._add_bound_at_last()
         limit_all_work(Deadline())
