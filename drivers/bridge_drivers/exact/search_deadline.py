@@ -39,8 +39,8 @@ class SearchProgress(NamedTuple):
 class SearchDeadline(Deadline):
     """The limit of all searches for one certificate.
 
-    All has ended a tenth and 5 s after the limit, counted from the start on the wall's clock, also
-    on a busy machine where the limit is in processor time.
+    All has ended a tenth and 5 s after the limit, or when its maker says, counted from the start on
+    the wall's clock, also on a busy machine where the limit is in processor time.
 
     Attributes:
         process_is_ending: Of a process of a pool, whichever deadline asks: what it works is paused.
@@ -52,18 +52,28 @@ class SearchDeadline(Deadline):
 
     process_is_ending: ClassVar[bool] = False
 
-    def __init__(self, limit: float = math.inf, *, of_processor: bool = False) -> None:
+    def __init__(
+        self,
+        limit: float = math.inf,
+        *,
+        of_processor: bool = False,
+        all_within: Optional[float] = None,
+    ) -> None:
         """It begins now.
 
         Args:
             limit: Seconds, of the wall, or where it is `of_processor` of this process's processor
                 time.
+            all_within: Seconds of the wall in which all must have ended, the last verdict too: at
+                least KEPT_SECONDS more than the limit. None: a tenth and GRACE_SECONDS more.
         """
         super().__init__(limit, of_processor=of_processor)
+        if all_within is None:
+            all_within = limit * (1 + GRACE_SHARE) + GRACE_SECONDS
         self.on_progress: Optional[Callable[[SearchProgress], None]] = None
         self.incumbent: Optional[float] = None
         self.is_interrupted = False
-        self._all = Deadline(limit * (1 + GRACE_SHARE) + GRACE_SECONDS)
+        self._all = Deadline(all_within)
         self._verdict_share = 1.0
         self._told_at = time.monotonic()
 
