@@ -79,8 +79,8 @@ class IntegerCertifier:
     def certify_from_point(self, point: Point) -> Iterator[Evidence]:
         """What is proved from a feasible point, the strongest first.
 
-        That is `unbounded` by a ray; `optimal` where bounds of columns alone show it, or by a tree
-        at the best point that the searches find; what the relaxation proves in fractions; the
+        That is `unbounded` by a ray; `optimal` where bounds of columns alone show it, by a search
+        over the lattice of a small program's equations, or by a tree at the best point that the searches find; what the relaxation proves in fractions; the
         claims of the points and the bound in the store. At last it says why there is no more. Adds
         the point, and better ones, to the store, and sets what `_search_from` sets.
         """
@@ -89,6 +89,7 @@ class IntegerCertifier:
         yield from self.refuter.ray_of_point(store.point or self.incumbent)
         if box_bound(program) == program.value(point):  # bounds of columns alone say it
             yield store.claim_of_leaf("optimal", NO_MULTIPLIERS, point)._replace(duals={})
+        yield from self.refuter.by_lattice()
         portfolio = self._search_from(point)
         point = self.incumbent or point
         if portfolio.best is not None:

@@ -259,7 +259,7 @@ class Portfolio:
         while (
             improved is None
             and self.seconds_left() > 0
-            and self.deadline.left_to_find() > PLAIN_RESERVE_SECONDS
+            and self.deadline.to_find().left() > PLAIN_RESERVE_SECONDS
             and not strategy.has_ended
         ):
             improved = self.resume(strategy, PLAIN_TURN_SECONDS)

@@ -41,13 +41,12 @@ class SearchProgress(NamedTuple):
 class SearchDeadline(Deadline):
     """The limit of all searches for one certificate.
 
-    Where a limit of the wall is asked for, all has ended a tenth and 5 s after it, also on a busy
-    machine where searches have a limit in processor time. Where none is, the limit of searches is
-    in processor time alone, and what is found does not depend on what else the machine does: all
-    has ended after LARGEST_LOAD times that.
+    Where a limit of the wall is asked for, all has ended a tenth and 5 s after it, or when its
+    maker says, also on a busy machine where searches have a limit in processor time. Where none is,
+    the limit is in processor time alone, and what is found does not depend on what else the machine
+    does: all has ended after LARGEST_LOAD times that.
 
     Attributes:
-        wall_limit: Seconds of the wall that were asked for; infinite where there are none.
         process_is_ending: Of a process of a pool, whichever deadline asks: what it works is paused.
         on_progress: Is told what goes on, in the thread of the search.
         incumbent: The objective of the best point, in its own sense, for the progress; None before
@@ -62,24 +61,26 @@ class SearchDeadline(Deadline):
         limit: float = math.inf,
         *,
         of_processor: bool = False,
-        wall_limit: float = math.inf,
+        all_within: Optional[float] = None,
     ) -> None:
         """It begins now.
 
         Args:
             limit: Seconds of searches, of the wall, or where it is `of_processor` of this process's
                 processor time.
-            wall_limit: Seconds of the wall that were asked for, beside a limit of the processor;
-                infinite where there are none.
+            all_within: Seconds of the wall in which all must have ended, the last verdict too: at
+                least KEPT_SECONDS more than a limit of the wall. None: a tenth and GRACE_SECONDS
+                more; where the limit is of the processor, LARGEST_LOAD times that.
         """
         super().__init__(limit, of_processor=of_processor)
-        self.wall_limit = wall_limit if of_processor else limit
         self._elsewhere = 0.0
+        self._is_by_wall = all_within is not None or not of_processor
+        if all_within is None:
+            all_within = _with_grace(limit) * (LARGEST_LOAD if of_processor else 1.0)
         self.on_progress: Optional[Callable[[SearchProgress], None]] = None
         self.incumbent: Optional[float] = None
         self.is_interrupted = False
-        by_load = _with_grace(limit) * (LARGEST_LOAD if of_processor else 1.0)
-        self._all = Deadline(min(_with_grace(self.wall_limit), by_load))
+        self._all = Deadline(all_within)
         self._verdict_share = 1.0
         self._told_at = time.monotonic()
 
@@ -121,12 +122,12 @@ class SearchDeadline(Deadline):
         left = self.left_of_all() - KEPT_SECONDS
         if not self.of_processor:
             return Deadline(min(self.left(), left))
-        return Deadline(left) if self.wall_limit < math.inf else self.to_find_at_last()
+        return Deadline(left) if self._is_by_wall else self.to_find_at_last()
 
     def to_find_at_last(self) -> Deadline:
         """The same where the limit is over and what is known may still grow by a bound: KEPT_SECONDS
         before all must have ended, by the clock of `to_find`."""
-        if self.wall_limit < math.inf or not self.of_processor:
+        if self._is_by_wall:
             return Deadline(self.left_of_all() - KEPT_SECONDS)
         left = _with_grace(self.seconds) - KEPT_SECONDS - self.spent()
         return Deadline(left, of_processor=True)
