@@ -58,7 +58,7 @@ FIRST_CUT_SECONDS = 0.5  # that they may be made at once
 LATTICE_AFTER_SECONDS = 2.0  # before which no lattice is reduced
 MOST_LATTICE_COLUMNS = 45  # integer ones
 ENOUGH_CLOSED = {MIR: 0.5, CLIQUE: 0.25}  # of the gap: then a strategy begins below the cuts
-LEAST_SHARE_BELOW_CUTS = 0.1  # of another strategy's seconds, that one below cuts seems to need
+LEAST_SHARE_BELOW_CUTS = 0.2  # of another strategy's seconds, that one below cuts seems to need
 SHORTER_TIMES = 4.0  # the seconds of the first tree, for a shorter one
 SHORTER_SECONDS = 2.0  # more
 SHORT_TREE = 40  # nodes of a tree that needs no shorter one
@@ -549,7 +549,7 @@ class Portfolio:
 
         The size of a tree is taken to be exponential in the gap: of one with N nodes it is N to the
         power of what is left of the gap. Seconds and N are those of another strategy, of which
-        something is known.
+        something is known. A turn is the least, so that the first one tells nothing of later ones.
         """
         if self.has_no_value:
             return TURN_SECONDS
@@ -557,7 +557,7 @@ class Portfolio:
         other = min(known, key=lambda s: s.estimated_seconds())
         seconds = min(other.estimated_seconds(), FARTHEST_FORECAST * self.seconds_so_far())
         share = math.pow(other.estimated_nodes(), -min(max(closed_share, 0.0), 1.0))
-        return seconds * max(share, LEAST_SHARE_BELOW_CUTS)
+        return max(seconds * max(share, LEAST_SHARE_BELOW_CUTS), TURN_SECONDS)
 
     def _lattice_forms(self) -> List[Dict[int, int]]:
         """The forms to branch on beside columns, as whole coefficients by column; none unless all
