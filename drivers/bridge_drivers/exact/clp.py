@@ -144,10 +144,11 @@ class Clp:
     CLP scales rows itself. What methods take and answer is in the program's own units.
 
     Attributes:
-        deadline_of_all: With which each solve of any relaxation ends at last.
+        deadline_of_all: With which each solve of any relaxation ends at last. All seconds of solves
+            are those of its clock, the wall's or the processor's.
         deadline: Of what this relaxation is solved for: a solve gets the time that is left of it
             when it begins, with a least and a most.
-        seconds: Of the wall, that one solve may take of a relaxation that has no such deadline.
+        seconds: That one solve may take of a relaxation that has no such deadline.
         n: The count of columns.
         m: The count of rows.
         column_factors: By column: CLP's value is this times the column's own.
@@ -218,7 +219,7 @@ class Clp:
         self.deadline = deadline
 
     def seconds_of_solve(self) -> float:
-        """Of the wall, how long a solve may take that begins now."""
+        """How long a solve may take that begins now."""
         seconds = self.seconds
         if self.deadline is not None:
             seconds = min(max(self.deadline.left(), LEAST_SOLVE_SECONDS), MOST_SOLVE_SECONDS)
@@ -264,7 +265,8 @@ class Clp:
         self._send_bounds()
         lib.Clp_setNumberIterations(model, 0)
         lib.Clp_setMaximumIterations(model, most_iterations)
-        now = time.monotonic()
+        clock = time.process_time if self.deadline_of_all.of_processor else time.monotonic
+        now = clock()
         portion = FIRST_SLICE
         end = now + self.seconds_of_solve()
         while True:
@@ -273,7 +275,7 @@ class Clp:
             (lib.Clp_primal if by_primal else lib.Clp_dual)(model, 0)
             if not self._is_stopped() or lib.Clp_numberIterations(model) >= most_iterations:
                 break
-            began, now = now, time.monotonic()
+            began, now = now, clock()
             end = min(end, now + self.deadline_of_all.left())
             if now >= end:
                 break

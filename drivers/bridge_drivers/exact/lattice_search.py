@@ -25,7 +25,7 @@ from .dual_bound import MultiplierKind
 from .hermite import LARGEST_NUMBER, Equation, integer_equations
 from .lattice import LLLReduction, column_widths, reduced_modulo
 from .leaf_proofs import from_fractions
-from .portfolio import TreeText
+from .strategies import TreeText
 from .rational_simplex import RationalSimplex, SimplexResult
 from .tree import Split, Tree, leaf_of, node_count
 from .work_limit import check_work
@@ -190,7 +190,7 @@ class HermiteForm:
             for j in left:
                 if j != least:
                     self._subtract(j, least, self._matrix[j][row] // self._matrix[least][row])
-            if max(map(abs, self.unimodular[least])) > LARGEST_NUMBER:
+            if max(abs(v) for v in self.unimodular[least]) > LARGEST_NUMBER:
                 return False
 
     def _subtract(self, column: int, other: int, factor: int) -> None:

@@ -194,7 +194,8 @@ def test_a_node_that_never_closes(monkeypatch: pytest.MonkeyPatch) -> None:
 
     monkeypatch.setattr(BranchAndBound, "solve_node", failing)
     portfolio = Portfolio(LOTS, Fraction(143, 10), no_point, SearchDeadline(60.0))
-    assert portfolio.run_plain() is None and portfolio.best is portfolio.bound is None
+    assert portfolio.run_plain() is None
+    assert portfolio.best is None and portfolio.bound is None
     assert portfolio.strategies[0].has_ended
     assert portfolio.reports() == ["plain: a leaf does not close"]
 
