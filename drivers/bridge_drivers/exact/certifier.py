@@ -176,7 +176,9 @@ class Certifier:
         """
         tried = [self._without_answer()]
         if not self.task.is_linear and not self.task.options.is_relaxation:
-            refutations = self.refuter.rounding_refutations()
+            refutations = itertools.chain(
+                self.refuter.rounding_refutations(), self.refuter.by_lattice()
+            )
             proves = self.task.options.proves
             tried = [refutations, self.refute(), *tried] if proves else [refutations, *tried]
         return first_proved(itertools.chain(*tried))

@@ -31,7 +31,7 @@ from ..model.integer_form import Box, IntegerProgram, Point
 from .certificate import RowNumbering, claim_lines, leaf_lines
 from .clp import Basis
 from .dual_bound import Multipliers, bit_width, dual_bound, fits_certificate
-from .portfolio import TreeText
+from .strategies import TreeText
 from .work_limit import check_work
 
 NOT_PROVED = "not proved: "

@@ -33,7 +33,7 @@ from .branching import Pseudocosts, PseudocostBranching
 from .clp import library
 from .fathoming import Cutoff
 from .node import Branch, OpenNode, ProvedSubtree
-from .search import BranchAndBound, ExactPoint, ImprovedIncumbent
+from .search import BranchAndBound, ExactPoint, ImprovedIncumbent, NodeNotClosed
 from .work_limit import limit_work
 
 # how processes start: `fork` takes 3 ms for each, `spawn` 100 to 300
@@ -105,16 +105,18 @@ class UnitResult(NamedTuple):
         proved: The subtree, where all of it is proved. Remote subtrees of the unit stand in it as
             they came.
         open_nodes: Else what is left of it, from its root to where the search stands.
-        pseudocosts: Those of the unit, and what it learnt.
+        learnt: What pseudocosts it learnt, without those that it was given.
         nodes: How many nodes more the subtree has; below 0 where more fell away than came.
         improved: A better point, where one was found; then the unit is as it was before.
+        why_not_closed: Why the node does not close where the search stands; empty where it may.
     """
 
     proved: Optional[ProvedSubtree]
     open_nodes: List[OpenNode]
-    pseudocosts: Pseudocosts
+    learnt: Pseudocosts
     nodes: int
     improved: Optional[ImprovedIncumbent] = None
+    why_not_closed: str = ""
 
 
 # searches of the last problems of this process by their pickled problem, but for those at work
@@ -140,16 +142,21 @@ def work(unit: WorkUnit) -> UnitResult:
     strong_candidates = search.branching.strong_candidates
     search.branching = PseudocostBranching(strong_candidates, unit.pseudocosts)
     search.node.move_to(unit.path, unit.open_nodes)
-    found = None
-    with contextlib.suppress(SearchPaused):
+    found, why_not_closed = None, ""
+    try:
         found = search.run()
-    pseudocosts = search.branching.pseudocosts
+    except NodeNotClosed as fault:
+        why_not_closed = fault.reason
+    except SearchPaused:
+        pass
+    learnt = search.branching.pseudocosts.less(unit.pseudocosts)
     if isinstance(found, ImprovedIncumbent):
-        return UnitResult(None, [], pseudocosts, search.nodes, found)
+        return UnitResult(None, [], learnt, search.nodes, found)
     while len(_search_cache) >= MOST_CACHED_SEARCHES:
         _search_cache.pop(next(iter(_search_cache)))
     _search_cache[unit.problem] = search
-    return UnitResult(found, search.node.open_nodes, pseudocosts, search.nodes)
+    open_nodes = search.node.open_nodes
+    return UnitResult(found, open_nodes, learnt, search.nodes, None, why_not_closed)
 
 
 class PoolFailed(SearchEnded):
@@ -196,13 +203,18 @@ class WorkerPool:
             The future of what `work` returns or raises.
 
         Raises:
-            PoolFailed: No process can be started (`ProcessPool`).
+            PoolFailed: It is not taken, for whatever reason: no process can be started, or the
+                connection to a cluster has ended.
         """
         try:
-            return self.executor().submit(work, unit)
-        except BrokenExecutor:
+            with contextlib.suppress(BrokenExecutor):
+                return self.executor().submit(work, unit)
             self.stop()
-        return self.executor().submit(work, unit)
+            return self.executor().submit(work, unit)
+        except SearchEnded:
+            raise
+        except Exception as fault:  # whatever an executor ends by
+            raise PoolFailed(f"no processes for the search ({fault})") from None
 
     def stop(self) -> None:
         """Ends what is worked, as far as that goes. Units can be given again afterwards."""
@@ -235,10 +247,7 @@ class ProcessPool(WorkerPool):
             PoolFailed: The system starts no process.
         """
         with signals_blocked():  # a process begins with them blocked
-            try:
-                return super().submit(unit)
-            except (ImportError, NotImplementedError, OSError) as fault:
-                raise PoolFailed(f"no processes for the search ({fault})") from None
+            return super().submit(unit)
 
     def stop(self) -> None:
         """Ends all processes: they pause, or are broken off after GRACE_SECONDS. All have ended
