@@ -314,6 +314,5 @@ def _solver_settings(values: Mapping[str, Any]) -> SolverSettings:
         mip_gap=get("mipgap", 0.0),
         threads=get("threads", 0),
         exact_check=bool(get("xcheck")),
-        shows_log=get("outlev", 0) >= 1,
         arguments=get("extra", ()),
     )

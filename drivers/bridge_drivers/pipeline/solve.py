@@ -264,7 +264,9 @@ class SolveRun:
         settings, program = self.settings, read_program.program
         asked = settings.solver_settings
         run = self.solver_run_class(program, asked, self.folder, solver_path, self.monitor)
+        run.stage = self.solver.name
         self.monitor.read_line = lambda line: self.solver.progress_of_line(line, program)
+        self.monitor.maximise = program.maximise
         if settings.keep_folder:
             run.write("model.mps", program.text)
         notes = [*self.source.notes, *read_program.notes, *program.notes]
