@@ -338,7 +338,7 @@ class AnswerCertifier:
         if not proves:
             judge.deadline.restart()
         given = answer_by_place(answer)
-        if given.duals is not None:
+        if given.duals is not None and factors:
             duals = {row: factors.get(row, 1) * dual for row, dual in given.duals.items()}
             given = given._replace(duals=duals)
         with interrupts_to(judge.deadline.interrupt):
@@ -352,6 +352,8 @@ class AnswerCertifier:
                 options=options,
                 pool=pool,
             )
+        if not factors:
+            return evidence
         exported = {row: dual / factors.get(row, 1) for row, dual in evidence.duals.items()}
         return evidence._replace(duals=exported)
 
