@@ -13,6 +13,7 @@ from typing import Callable, ClassVar, Iterator, Mapping, NamedTuple, Optional
 
 from ..system.deadline import Deadline
 from ..system.errors import SearchEnded, SearchPaused
+from .clp import Clp
 from .work_limit import shorten_work
 
 PROGRESS_SECONDS = 0.5  # between two looks at what is told of the progress
@@ -125,11 +126,12 @@ class SearchDeadline(Deadline):
             raise SearchPaused(f"time ({nodes} nodes)")
 
     def interrupt(self) -> None:
-        """The user ends the search: at its next node, and exact work of this thread within
-        INTERRUPT_SECONDS; a solve of CLP ends by its own limit. Called by the handler of a signal,
-        in the main thread."""
+        """The user ends the search: at its next node, and exact work of this thread and solves of
+        CLP within INTERRUPT_SECONDS, of which a running one ends behind its slice. Called by the
+        handler of a signal, in the main thread."""
         self.is_interrupted = True
         shorten_work(Deadline(INTERRUPT_SECONDS))
+        Clp.shorten(Deadline(INTERRUPT_SECONDS))
 
     def why(self, reason: str) -> str:
         """Why a search has no tree, in words: the reason that it gives itself, or an interrupt,

@@ -279,9 +279,9 @@ class AnsweredRun:
     def _notes_on_search(self, answer: Answer, resolution: Resolution) -> list[str]:
         """Lines on the search.
 
-        How a limit of time was divided that the solver or the search reached, that the user ended
-        the search, the objective of another point, and that the solver's word alone makes a proved
-        point optimal.
+        They say how a limit of time was divided that the solver or the search reached, that the
+        user ended the search, the objective of another point, and that the solver's word alone
+        makes a proved point optimal.
         """
         lines = []
         shares = self.judge.shares.words()
