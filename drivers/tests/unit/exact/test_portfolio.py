@@ -309,7 +309,7 @@ def test_a_bound_that_does_not_close_is_lowered(monkeypatch: pytest.MonkeyPatch)
 
 
 @NEEDS_CLP
-@pytest.mark.parametrize("kind", [KNAPSACK, COVER, LOTS])
+@pytest.mark.parametrize("kind", [KNAPSACK, COVER])
 def test_progress_never_goes_back(kind: IntegerProgram, monkeypatch: pytest.MonkeyPatch) -> None:
     """Whose turn it is, is not seen: nodes and what is closed grow, and a forecast is a time."""
     monkeypatch.setattr(SearchDeadline, "is_progress_due", lambda deadline: True)
