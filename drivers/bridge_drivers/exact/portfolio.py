@@ -17,7 +17,7 @@ from __future__ import annotations
 import math
 import weakref
 from fractions import Fraction
-from typing import Callable, Dict, List, NamedTuple, Optional, Sequence
+from typing import Callable, Dict, List, Optional, Sequence
 
 from .lattice import thin_directions
 from .short_duals import box_bound
@@ -39,6 +39,7 @@ from .strategies import (
     ProvedBound,
     Strategy,
     TreeText,
+    joint_progress,
 )
 from .tree import Tree
 from .worker_pools import SearchProblem, WorkerPool
@@ -70,13 +71,6 @@ WORSE_SHARE = 0.1  # of a tree's nodes, for a worse value: from then on it is se
 BOUND_DIGITS = 3  # of the gap, in which a bound is told
 LOWERINGS = (0.0, 1e-9, 1e-7, 1e-5, 1e-3)  # of a bound in turn, relative, until it is proved
 LATTICE_TOLERANCE = 1e-6  # spacings, by which a bound may be beyond a value of the lattice
-
-
-class Turn(NamedTuple):
-    """The turn of a strategy: whose it is, and the second of the deadline at which it began."""
-
-    strategy: Strategy
-    began: float
 
 
 class Portfolio:
@@ -131,7 +125,6 @@ class Portfolio:
         self.end = math.inf  # seconds after `started`
         self.has_no_value = value is None
         self.preparation = Preparation([THIN, CLIQUE] if self.has_no_value else [MIR, CLIQUE, THIN])
-        self._turn: Optional[Turn] = None
 
     @property
     def dual_bound(self) -> float:
@@ -142,29 +135,12 @@ class Portfolio:
     def tell_progress(self) -> None:
         """Tells the deadline what all strategies have together, while one of them has its turn.
 
-        So no number goes back when the turn is another's: nodes are those of all, the bound the
-        best of all in the objective's own sense, and the share of the tree that is closed, with its
-        open nodes and the seconds that it forecasts, are those of the strategy that is furthest.
+        The bound is the best of all, in the objective's own sense.
         """
-        furthest = max(self.strategies, key=lambda strategy: strategy.search.proved_share())
-        share = furthest.search.proved_share()
-        known = {
-            "nodes": float(sum(strategy.search.search.nodes for strategy in self.strategies)),
-            "open": float(furthest.search.open_count()),
-            "closed": share,
-        }
+        known = joint_progress(self.strategies, self.deadline.spent())
         if not self.has_no_value:
             known["bound"] = self.program.sign * self.dual_bound
-        if share > 0:
-            known["left"] = self._seconds_of(furthest) * (1 - share) / share
         self.deadline.tell_numbers(**known)
-
-    def _seconds_of(self, strategy: Strategy) -> float:
-        """What a strategy took so far, the turn that it has now included."""
-        turn = self._turn
-        is_running = turn is not None and turn.strategy is strategy
-        now = self.deadline.spent() - turn.began if turn is not None and is_running else 0.0
-        return strategy.spent + now
 
     def reports(self) -> List[str]:
         """How each strategy that had a turn ended its last one, in the order of their beginnings."""
@@ -203,7 +179,7 @@ class Portfolio:
         if strategy.has_ended:
             return None
         began, until = self.deadline.spent(), self.until(budget)
-        self._turn = Turn(strategy, began)
+        strategy.turn_began = began
         try:
             found = strategy.search.resume(until, most_nodes)
             while isinstance(found, ImprovedIncumbent) and not self.has_no_value:
@@ -217,7 +193,7 @@ class Portfolio:
             return None
         finally:
             strategy.spent += self.deadline.spent() - began
-            self._turn = None
+            strategy.turn_began = None
         if isinstance(found, ImprovedIncumbent):
             return found
         self._end_with_tree(strategy, found)

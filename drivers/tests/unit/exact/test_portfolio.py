@@ -310,7 +310,7 @@ def test_a_bound_that_does_not_close_is_lowered(monkeypatch: pytest.MonkeyPatch)
 
 
 @NEEDS_CLP
-@pytest.mark.parametrize("kind", [KNAPSACK, COVER, LOTS])
+@pytest.mark.parametrize("kind", [KNAPSACK, COVER])
 def test_progress_never_goes_back(kind: IntegerProgram, monkeypatch: pytest.MonkeyPatch) -> None:
     """Whose turn it is, is not seen: nodes and what is closed grow, and a forecast is a time."""
     monkeypatch.setattr(SearchDeadline, "is_progress_due", lambda deadline: True)
@@ -341,8 +341,7 @@ def test_progress_is_that_of_all_strategies() -> None:
             open_count=lambda nodes=nodes: nodes // 2,
             dual_bound=bound,
         )
-        strategy = Strategy("", [], [], search, portfolio.objective, spent)  # type: ignore[arg-type]
-        portfolio.strategies.append(strategy)
+        portfolio.strategies.append(strategy_with(search, spent=spent))
     portfolio.tell_progress()
     known = {"nodes": 37.0, "open": 15.0, "closed": 0.2, "bound": 19.0, "left": 20.0}
     assert [dict(progress.numbers) for progress in told] == [pytest.approx(known)]
