@@ -252,7 +252,8 @@ class AnswerCertifier:
         proves = settings.prove and not self.run.is_interrupted
         deadline = self._deadline(is_search=proves)
         judge = CertificateJudge(self.bridge, self.model, self.run.path("certificate"), deadline)
-        pool = open_pool(settings.processes, settings.cluster) if proves else None
+        seconds = deadline.left()
+        pool = open_pool(settings.processes, settings.cluster, seconds) if proves else None
         self._known = {}
         self.monitor.progress.begin("certificate", deadline.seconds)
         try:
