@@ -34,6 +34,7 @@ from .task import CertificationTask, SearchOptions
 from .work_limit import limit_work
 from .worker_pools import WorkerPool
 
+BEYOND_DOUBLES = "a number of the model is beyond the range of doubles, by which is searched"
 DENIALS_OF_A_POINT = (AnswerClaim.INFEASIBLE,)
 DENIALS_OF_AN_OPTIMUM = (
     AnswerClaim.INFEASIBLE,
@@ -136,8 +137,19 @@ class Certifier:
             return found._replace(may_be_unbounded=self.refuter.may_be_unbounded())
         except (ClpNotInstalled, SearchEnded) as ended:
             return not_proved(ended)
+        except OverflowError:
+            return self._known_or(BEYOND_DOUBLES)
         finally:
             limit_all_work(Deadline())
+
+    def _known_or(self, reason: str) -> Evidence:
+        """What is proved by now of what is known, else that nothing is, for a reason in words."""
+        limit_all_work(Deadline(KEPT_SECONDS))
+        try:
+            found = first_proved(self._known())
+        except (OverflowError, TimeOver, DeadlineExceeded):
+            return not_proved(reason)
+        return found if found.is_proved else not_proved(reason)
 
     def certify_point(self) -> Evidence:
         """Where the solver has a point: that it is optimal, else a point and a bound.

@@ -12,7 +12,7 @@ import ctypes.util
 import enum
 import math
 import time
-from typing import Any, Iterable, List, Mapping, NamedTuple, Optional, Sequence, Tuple
+from typing import Any, Iterable, Iterator, List, Mapping, NamedTuple, Optional, Sequence, Tuple
 
 from ..model.double_form import DoubleBound, DoubleProgram
 from ..system.deadline import Deadline
@@ -123,7 +123,7 @@ def library() -> Optional[ctypes.CDLL]:
 
 def _load() -> Optional[ctypes.CDLL]:
     """The first library by the known names that has all calls, whose types are set; else None."""
-    for name in filter(None, (*LIBRARY_NAMES, ctypes.util.find_library("Clp"))):
+    for name in _library_names():
         try:
             found = ctypes.CDLL(name)
             for call, signature in _SIGNATURES.items():
@@ -134,6 +134,14 @@ def _load() -> Optional[ctypes.CDLL]:
         except (OSError, AttributeError):
             continue
     return None
+
+
+def _library_names() -> Iterator[str]:
+    """The known names; and then what the system finds, which starts `ldconfig` and takes long."""
+    yield from LIBRARY_NAMES
+    found = ctypes.util.find_library("Clp")
+    if found is not None:
+        yield found
 
 
 class Clp:

@@ -87,7 +87,9 @@ class ParallelSearch:
         set_aside: Subtrees whose first node was neither closed nor branched on, for the cutoff of
             now.
         running: Those that the pool works; none between two calls of `resume`.
-        reports_progress: Whether the deadline is told of it.
+        reports_progress: Whether its progress is told.
+        on_progress: Tells it, in place of `tell_progress`: a portfolio tells that of all its
+            searches together.
         began: The second of the deadline.
     """
 
@@ -112,6 +114,7 @@ class ParallelSearch:
         this: ParallelSearch = weakref.proxy(self)  # so that CLP's memory is free with the last use
         self.search.on_node = lambda: this.report_progress()
         self.reports_progress = True
+        self.on_progress: Optional[Callable[[], None]] = None
         self.running: Dict[Future[UnitResult], Subtree] = {}
         self.waiting = [Subtree("", [])]
         self.set_aside: List[Subtree] = []
@@ -231,16 +234,29 @@ class ParallelSearch:
             0.5**depth for depth, node in open_nodes if node.sibling is not None
         )
 
-    def report_progress(self) -> None:
-        """Tells the deadline of nodes, open nodes and the bound, in the objective's own sense.
+    def open_count(self) -> int:
+        """How many nodes are open: known, and neither proved nor branched on."""
+        return sum(1 + len(subtree.open_nodes) for subtree in self.subtrees())
 
-        The search calls it at nodes where the progress is due. Without a cutoff no bound is told,
-        and nothing where `reports_progress` is not set.
+    def report_progress(self) -> None:
+        """Has the progress told, unless `reports_progress` is not set.
+
+        The search calls it at nodes where the progress is due.
         """
-        if not self.reports_progress:
-            return
-        open_nodes = sum(1 + len(subtree.open_nodes) for subtree in self.subtrees())
-        known = {"nodes": float(self.search.nodes), "open": float(open_nodes)}
+        if self.reports_progress:
+            (self.on_progress or self.tell_progress)()
+
+    def tell_progress(self) -> None:
+        """Tells the deadline of nodes, open nodes, the share of the tree that is closed, and the
+        bound, in the objective's own sense.
+
+        Without a cutoff no bound is told.
+        """
+        known = {
+            "nodes": float(self.search.nodes),
+            "open": float(self.open_count()),
+            "closed": self.proved_share(),
+        }
         if self.search.cutoff.value is not None:
             known["bound"] = self.search.program.sign * self.dual_bound
         self.deadline.tell_numbers(**known)

@@ -15,6 +15,7 @@ processor's.
 from __future__ import annotations
 
 import math
+import weakref
 from fractions import Fraction
 from typing import Callable, Dict, List, Optional, Sequence
 
@@ -38,6 +39,7 @@ from .strategies import (
     ProvedBound,
     Strategy,
     TreeText,
+    joint_progress,
 )
 from .tree import Tree
 from .worker_pools import SearchProblem, WorkerPool
@@ -130,6 +132,16 @@ class Portfolio:
         go. Minus infinity before there is one."""
         return max((strategy.search.dual_bound for strategy in self.strategies), default=-math.inf)
 
+    def tell_progress(self) -> None:
+        """Tells the deadline what all strategies have together, while one of them has its turn.
+
+        The bound is the best of all, in the objective's own sense.
+        """
+        known = joint_progress(self.strategies, self.deadline.spent())
+        if not self.has_no_value:
+            known["bound"] = self.program.sign * self.dual_bound
+        self.deadline.tell_numbers(**known)
+
     def reports(self) -> List[str]:
         """How each strategy that had a turn ended its last one, in the order of their beginnings."""
         return [strategy.report for strategy in self.strategies if strategy.report]
@@ -142,6 +154,8 @@ class Portfolio:
         above: List[Row] = [*self.objective.open_rows(), *(cut.row() for cut in cuts)]
         problem = SearchProblem(self.program, above, forms, self.objective.cutoff)
         search = ParallelSearch(problem, self.exact_point, self.deadline, self.pool)
+        this: Portfolio = weakref.proxy(self)  # so that CLP's memory is free with the last use
+        search.on_progress = lambda: this.tell_progress()
         self.strategies.append(Strategy(name, cuts, forms, search, self.objective))
         return self.strategies[-1]
 
@@ -165,6 +179,7 @@ class Portfolio:
         if strategy.has_ended:
             return None
         began, until = self.deadline.spent(), self.until(budget)
+        strategy.turn_began = began
         try:
             found = strategy.search.resume(until, most_nodes)
             while isinstance(found, ImprovedIncumbent) and not self.has_no_value:
@@ -178,6 +193,7 @@ class Portfolio:
             return None
         finally:
             strategy.spent += self.deadline.spent() - began
+            strategy.turn_began = None
         if isinstance(found, ImprovedIncumbent):
             return found
         self._end_with_tree(strategy, found)

@@ -30,8 +30,9 @@ class SearchProgress(NamedTuple):
 
     Attributes:
         step: In words, where it is no search.
-        numbers: Of a search, by name: `nodes`, `open`, `cuts`, and in the objective's own sense
-            `incumbent` and `bound`. Those that are not known are left out.
+        numbers: Of a search, by name: `nodes`, `open` ones, `closed` (the share of the tree that is
+            proved, from 0 to 1), `left` (the seconds that this share forecasts), `cuts`, and in the
+            objective's own sense `incumbent` and `bound`. Those that are not known are left out.
     """
 
     step: str = ""
