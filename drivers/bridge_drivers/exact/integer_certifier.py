@@ -11,7 +11,7 @@ import itertools
 from fractions import Fraction
 from typing import Iterator, Optional, Sequence
 
-from .short_duals import NO_MULTIPLIERS, box_bound, short_duals
+from .short_duals import NO_MULTIPLIERS, box_bound
 from ..model.integer_form import Box, Point
 from ..system.errors import SearchEnded
 from . import points
@@ -156,7 +156,7 @@ class IntegerCertifier:
         clp = self.task.solve_relaxation().optimal_clp()
         if clp is None or not any(program.costs):
             return
-        self.linear.add_short_duals(short_duals(program, clp, self.task.deadline))
+        self.linear.add_short_bound(clp)
         duals = basis_duals(program, *clp.basis())
         box = Box(program.lower, program.upper)
         proof = LeafProver(program, None).prove_from_fractions(duals, MultiplierKind.DUAL, box)

@@ -23,7 +23,8 @@ KINDS_OF_CUTS: Mapping[str, FrozenSet[CutKind]] = {
     CLIQUE: frozenset({CutKind.MIR, CutKind.CLIQUE}),
 }
 
-LEAST_CLOSED_SHARE = 0.01  # of the gap, for cuts to be worth a strategy, or more time
+LEAST_CLOSED_SHARE = 0.01  # of the gap, for cuts to be worth a strategy
+LEAST_ATTEMPT_SHARE = 0.03  # of the gap, that an attempt to make cuts is to close
 MOST_VAIN_ATTEMPTS = 10  # to make cuts that close more
 LEAST_ESTIMATE = 1e-9  # seconds
 
@@ -117,6 +118,11 @@ class Strategy:
         rest = self.spent * (1 - share) / share if share else self.first_estimate
         return max(rest, LEAST_ESTIMATE) * self.correction
 
+    def estimated_nodes(self) -> float:
+        """How many nodes its whole tree seems to have, by the share that is proved; at least 1."""
+        share = self.search.proved_share()
+        return max(self.search.search.nodes / share if share else 0.0, 1.0)
+
 
 def joint_progress(strategies: Sequence[Strategy], now: float) -> Dict[str, float]:
     """What strategies have together, by the names of `SearchProgress`, for `Portfolio`.
@@ -167,11 +173,15 @@ class Preparation:
 
     def add(self, cuts: List[ProvedCut], closed_share: float) -> None:
         """Takes the cuts that some seconds made; they replace those before. It was in vain where
-        they close not even LEAST_CLOSED_SHARE of the gap more."""
-        is_vain = closed_share < self.closed_share + LEAST_CLOSED_SHARE
+        they close not even LEAST_ATTEMPT_SHARE of the gap more."""
+        is_vain = closed_share < self.closed_share + LEAST_ATTEMPT_SHARE
         self.cuts = cuts
         self.vain_attempts = self.vain_attempts + 1 if is_vain else 0
         self.closed_share = closed_share
+
+    def is_fruitful(self) -> bool:
+        """Whether the last attempt closed more of the gap."""
+        return bool(self.cuts) and not self.vain_attempts
 
     def is_in_vain(self) -> bool:
         """Whether more than MOST_VAIN_ATTEMPTS in a row were in vain; of MIR cuts alone one is

@@ -258,7 +258,8 @@ class AnswerCertifier:
         proves = settings.prove and not self.run.is_interrupted
         deadline = self._deadline(is_search=proves)
         judge = CertificateJudge(self.bridge, self.model, self.run.path("certificate"), deadline)
-        pool = open_pool(settings.processes, settings.cluster) if proves else None
+        seconds = deadline.left()
+        pool = open_pool(settings.processes, settings.cluster, seconds) if proves else None
         self._known = {}
         self.monitor.progress.begin("certificate", deadline.seconds)
         try:
@@ -364,7 +365,7 @@ class AnswerCertifier:
         if not proves:
             judge.deadline.restart()
         given = answer_by_place(answer)
-        if given.duals is not None:
+        if given.duals is not None and factors:
             duals = {row: factors.get(row, 1) * dual for row, dual in given.duals.items()}
             given = given._replace(duals=duals)
         claim = CLAIM_OF_STATUS[answer.found.status]
@@ -381,6 +382,8 @@ class AnswerCertifier:
                 options=options,
                 pool=pool,
             )
+        if not factors:
+            return evidence
         exported = {row: dual / factors.get(row, 1) for row, dual in evidence.duals.items()}
         return evidence._replace(duals=exported)
 

@@ -168,7 +168,8 @@ def test_a_tree_for_worse_values_is_searched_once_more() -> None:
 @NEEDS_CLP
 def test_a_node_that_does_not_close(monkeypatch: pytest.MonkeyPatch) -> None:
     """All else is searched without it; then a bound that is a little worse is proved."""
-    value, solve_node, failed = Fraction(143, 10), BranchAndBound.solve_node, list[int]()
+    value, failed = Fraction(143, 10), list[int]()
+    solve_node = BranchAndBound.solve_node
 
     def failing(search: BranchAndBound, branch: Optional[Branch]) -> object:
         if search.cutoff.value == value and search.node.depth == 2 and not failed:
@@ -194,7 +195,8 @@ def test_a_node_that_never_closes(monkeypatch: pytest.MonkeyPatch) -> None:
 
     monkeypatch.setattr(BranchAndBound, "solve_node", failing)
     portfolio = Portfolio(LOTS, Fraction(143, 10), no_point, SearchDeadline(60.0))
-    assert portfolio.run_plain() is None and portfolio.best is portfolio.bound is None
+    assert portfolio.run_plain() is None
+    assert portfolio.best is None and portfolio.bound is None
     assert portfolio.strategies[0].has_ended
     assert portfolio.reports() == ["plain: a leaf does not close"]
 
