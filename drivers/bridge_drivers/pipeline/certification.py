@@ -30,6 +30,7 @@ from ..solvers.run import SolverRun
 from ..formats.numbers import decimal, decimal_or_fraction
 from .answer import Answer
 from .answer_places import answer_by_place
+from .exact_optimum import ExactOptimum
 from .judge import CertificateJudge
 from .monitor import Monitor
 from .row_factors import whole_form
@@ -314,6 +315,9 @@ class AnswerCertifier:
         if given.duals is not None:
             duals = {row: factors.get(row, 1) * dual for row, dual in given.duals.items()}
             given = given._replace(duals=duals)
+        exact_solver = None
+        if not self.program.integer_count:
+            exact_solver = ExactOptimum(self.program, factors, judge.deadline)
         with interrupts_to(judge.deadline.interrupt):
             evidence = certify(
                 program,
@@ -324,6 +328,7 @@ class AnswerCertifier:
                 on_progress=self._tell,
                 options=options,
                 pool=pool,
+                exact_solver=exact_solver,
             )
         exported = {row: dual / factors.get(row, 1) for row, dual in evidence.duals.items()}
         return evidence._replace(duals=exported)
