@@ -245,8 +245,9 @@ def _best_with_fixed(
     near = list(nearby_points(program, clp.values()))
     if not near or found is not None:
         short = _short_with_fixed(around, found, clp.values())
-        near += [short] if short is not None and program.is_feasible(short) else []
-    return min(near, key=program.value, default=found)
+        if short is not None and program.is_feasible(short):
+            near.append(short)
+    return min(near, key=program.value) if near else found
 
 
 def _short_with_fixed(
@@ -261,7 +262,8 @@ def _short_with_fixed(
     """
     limit = Deadline(SHORT_SECONDS, of_processor=True)
     near = NEAR_OF_DOUBLES if optimum is None else NEAR_OF_EXACT
-    found = short_point(around, fixed_points(x if optimum is None else optimum), near, limit)
+    base = fixed_points(x) if optimum is None else fixed_points(optimum)
+    found = short_point(around, base, near, limit)
     return None if found is None else found.point
 
 

@@ -44,6 +44,13 @@ class ExactOptimum:
         self.search = search
         self.solver = Esolver()
 
+    @classmethod
+    def of(
+        cls, program: LinearProgram, factors: Mapping[int, int], search: SearchDeadline
+    ) -> Optional[ExactOptimum]:
+        """What the search is given: None of a program with integer columns."""
+        return None if program.integer_count else cls(program, factors, search)
+
     def __call__(self, deadline: Deadline) -> Optional[ExactAnswer]:
         """The optimum by the file's numbers; None where there is none in time.
 
