@@ -31,6 +31,7 @@ from ..solvers.run import SolverRun
 from ..formats.numbers import decimal, decimal_or_fraction
 from .answer import Answer
 from .answer_places import answer_by_place
+from .exact_optimum import ExactOptimum
 from .judge import CertificateJudge
 from .judged_start import judged_start
 from .monitor import Monitor
@@ -371,6 +372,7 @@ class AnswerCertifier:
                 on_progress=self.monitor.tell_search,
                 options=self._search_options(proves=proves),
                 pool=pool,
+                exact_solver=ExactOptimum.of(self.program, factors, judge.deadline),
             )
         if not factors:
             return evidence
