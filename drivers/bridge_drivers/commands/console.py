@@ -202,21 +202,22 @@ class Console:
 class ProgressLine:
     """Shows what goes on, from a thread of its own; `Console.progress` starts and stops it.
 
-    On a terminal it is one line that is rewritten in place and leaves nothing behind, elsewhere a
-    line each LINE_SECONDS.
+    On a terminal it is one line that is rewritten in place and leaves nothing behind, elsewhere,
+    and on one that cannot do that (TERM=dumb), a line each LINE_SECONDS.
 
     Attributes:
         stream: Standard error.
         name: Of the command.
         progress: What the work is at, read while it changes.
-        in_place: One line is rewritten: that is wanted, and the stream is a terminal.
+        in_place: One line is rewritten: that is wanted, and the stream is a terminal that can.
     """
 
     def __init__(self, stream: TextIO, name: str, progress: Progress, *, in_place: bool) -> None:
         self.stream = stream
         self.name = name
         self.progress = progress
-        self.in_place = in_place and is_terminal(stream)
+        is_dumb = os.environ.get("TERM") == "dumb"  # to which CLEAR_LINE is letters
+        self.in_place = in_place and is_terminal(stream) and not is_dumb
         self._is_shown = False
         self._has_ended = threading.Event()
         self._thread = threading.Thread(target=self._run, daemon=True)
@@ -240,16 +241,23 @@ class ProgressLine:
         wait = FIRST_SECONDS if self.in_place else LINE_SECONDS
         while not self._has_ended.wait(wait):
             if self.progress.stage:
-                self._show(printable(f"{self.name}: {self.progress.words()}"))
+                self._show(printable(self.progress.words()))
             wait = EVERY_SECONDS if self.in_place else LINE_SECONDS
 
-    def _show(self, line: str) -> None:
-        """Shows one state of the progress: a line without its end, cut to a terminal's width."""
-        if self.in_place:  # in the last column a terminal would begin another line
-            self._write(CLEAR_LINE + cut_to_width(line, columns_of(self.stream) - 1))
-            self._is_shown = True
-        else:
+    def _show(self, words: str) -> None:
+        """Shows one state of the progress: a line, in which the command stands before the words.
+
+        On a terminal it is cut to its width, and where it is wider than that without the command.
+        """
+        line = f"{self.name}: {words}"
+        if not self.in_place:
             self._write(line + "\n")
+            return
+        columns = columns_of(self.stream) - 1  # in the last one a terminal would begin another line
+        if cut_to_width(line, columns) != line:
+            line = cut_to_width(words, columns)
+        self._write(CLEAR_LINE + line)
+        self._is_shown = True
 
     def _write(self, text: str) -> None:
         """Writes to the stream at once; where it takes no more, nothing is shown from then on."""

@@ -29,7 +29,7 @@ from .evidence import (
 from .integer_certifier import IntegerCertifier
 from .linear_certifier import LinearCertifier
 from .refutations import Refuter
-from .search_deadline import KEPT_SECONDS, SearchDeadline, SearchProgress
+from .search_deadline import SearchDeadline, SearchProgress
 from .task import CertificationTask, SearchOptions
 from .work_limit import limit_work
 from .worker_pools import WorkerPool
@@ -130,7 +130,7 @@ class Certifier:
     def _certified(self, claim: AnswerClaim) -> Evidence:
         """As `certify`, without what is known beside the evidence."""
         try:
-            limit_all_work(Deadline(self.task.deadline.left_to_find()))
+            limit_all_work(self.task.deadline.to_find())
             return self._tried(claim)
         except (TimeOver, DeadlineExceeded):
             found = self._with_optimality_in_doubles(first_proved(self._known()))
@@ -267,7 +267,7 @@ class Certifier:
         """
         limit_all_work(Deadline())
         yield from self.integer.claim_known_tree()
-        limit_all_work(Deadline(self.task.deadline.left_of_all() - KEPT_SECONDS))
+        limit_all_work(self.task.deadline.to_find_at_last())
         with contextlib.suppress(TimeOver, SearchEnded):
             self._add_bound_at_last()
         limit_all_work(Deadline())

@@ -16,7 +16,18 @@ import os
 import selectors
 import signal
 import subprocess
-from typing import IO, BinaryIO, Callable, Deque, Iterator, List, NamedTuple, Optional, Sequence
+from typing import (
+    IO,
+    BinaryIO,
+    Callable,
+    Deque,
+    Iterator,
+    List,
+    Mapping,
+    NamedTuple,
+    Optional,
+    Sequence,
+)
 
 from .files import new_file
 from .signals import SIGNALS
@@ -26,6 +37,12 @@ PIECE = 1 << 16  # bytes that are read at once
 LONGEST_WAIT = 3600.0  # seconds of one look at a process, of which there may be more
 POLL = 0.02  # seconds between two looks at a process, where the system does not tell its end
 DRAINED = 1 << 20  # bytes that are still read of a stream when its process has ended
+# where coreutils has the library of `stdbuf`
+BUFFER_LIBRARIES = (
+    "/usr/libexec/coreutils/libstdbuf.so",
+    "/usr/lib/coreutils/libstdbuf.so",
+    "/usr/local/libexec/coreutils/libstdbuf.so",
+)
 # what stands beside each process, and kills its group where this process ends before it says so
 GUARD = 'read end || kill -s KILL -- "-$0"'
 
@@ -84,6 +101,7 @@ def run(
     streams: Streams = Streams.APART,
     log: Optional[str] = None,
     on_interrupt: Optional[Callable[[], None]] = None,
+    by_lines: bool = False,
 ) -> Finished:
     """Runs a program to its end, or to that of its time. It reads nothing from standard input.
 
@@ -99,6 +117,7 @@ def run(
         log: The path of a file that gets the output as it comes.
         on_interrupt: Where it is given, the first interrupt of this process is sent to the program,
             which may end in its own way, and told here.
+        by_lines: It writes each line at once, where it would hold some thousand bytes back.
 
     Raises:
         OSError: It cannot be started (a word with a byte 0 among others), or the log not be written.
@@ -108,7 +127,7 @@ def run(
     errors = _Memory(limits.memory_bytes)
     lines = _Lines(on_line, limits.line_bytes)
     with _open_log(log, limits) as to_log, SIGNALS.deferred():
-        child = _started(argv, streams, folder)
+        child = _started(argv, streams, folder, by_lines=by_lines)
         with _ended_at_last(child):
             readers = [
                 *_readers_of(child.stdout, [memory.add, lines.add, *to_log]),
@@ -156,12 +175,13 @@ def _readers_of(stream: Optional[IO[bytes]], sinks: Sequence[Sink]) -> List[_Rea
 
 
 def _started(
-    argv: Sequence[str], streams: Streams, folder: Optional[str]
+    argv: Sequence[str], streams: Streams, folder: Optional[str], *, by_lines: bool = False
 ) -> subprocess.Popen[bytes]:
     """Starts a program in a session, and so a group, of its own, with nothing on standard input.
 
     Args:
         folder: Where it runs; None: where this process does.
+        by_lines: It writes each line at once.
 
     Raises:
         OSError: It cannot be started.
@@ -174,10 +194,28 @@ def _started(
             stdout=output,
             stderr=subprocess.STDOUT if streams is Streams.MERGED else output,
             cwd=folder,
+            env={**os.environ, **line_buffering()} if by_lines else None,
             start_new_session=True,
         )
     except ValueError as fault:  # a byte 0, or what no word of this system is
         raise OSError(errno.EINVAL, str(fault)) from None
+
+
+def line_buffering() -> Mapping[str, str]:
+    """The variables by which a program writes each line at once, though its output is a pipe.
+
+    A program holds its output back where that is no terminal. These are what `stdbuf -oL` sets: a
+    library of GNU's coreutils sets the buffer before the program begins. Without that command the
+    program would have to be found twice, and a program that cannot be started is told as such.
+
+    Returns:
+        Nothing where the library is not there.
+    """
+    library = next(filter(os.path.exists, BUFFER_LIBRARIES), None)
+    if library is None:
+        return {}
+    others = os.environ.get("LD_PRELOAD", "")
+    return {"_STDBUF_O": "L", "LD_PRELOAD": f"{others}:{library}".lstrip(":")}
 
 
 @contextlib.contextmanager
