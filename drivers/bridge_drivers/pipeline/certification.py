@@ -258,8 +258,8 @@ class AnswerCertifier:
         proves = settings.prove and not self.run.is_interrupted
         deadline = self._deadline(is_search=proves)
         judge = CertificateJudge(self.bridge, self.model, self.run.path("certificate"), deadline)
-        seconds = deadline.left()
-        pool = open_pool(settings.processes, settings.cluster, seconds) if proves else None
+        pool = open_pool(settings.processes, settings.cluster, deadline) if proves else None
+        self._known = {}
         self.monitor.stage_begins("certificate", deadline.seconds)
         try:
             with self.monitor.timing("certify"):
