@@ -9,7 +9,6 @@ import os
 import re
 import subprocess
 import sys
-import time
 from pathlib import Path
 from typing import Iterator, Mapping, NamedTuple, Sequence
 
@@ -18,6 +17,7 @@ try:
 except ImportError:
     raise SystemExit("packaging/build: needs Python 3.11 or later") from None
 
+from sbom import sbom
 from sources import BUILT, TOP, TRIED, fault_of, said_by
 
 sys.path.insert(0, os.path.join(TOP, "drivers"))
@@ -180,14 +180,9 @@ class Project:
     def pages(self) -> Iterator[File]:
         """The man pages of the commands, with their words filled in."""
         drivers = [name for name, entry in self.scripts.items() if entry == DRIVER]
-        words = {
-            "VERSION": self.version,
-            "DRIVERS": ", ".join(drivers).replace("-", "\\-"),
-            "DATE": time.strftime("%Y-%m-%d", time.gmtime(self.epoch)),
-            **manual.parts(),
-        }
-        for name in OWN_PAGES & {f"{script}.1" for script in self.scripts}:
-            yield File(name, filled(read("packaging", "man", name), words))
+        for name, data in manual.own_pages(drivers, self.version, self.epoch).items():
+            if name.removesuffix(".1") in self.scripts:
+                yield File(name, data)
 
     def linked_pages(self) -> Iterator[str]:
         """The commands whose page is that of the drivers."""
@@ -211,6 +206,11 @@ class Project:
             raise Unfit("links that lead nowhere: " + ", ".join(dead))
         return found
 
+    def sbom(self) -> File:
+        """What the packages are made of, for tools."""
+        text = sbom(self.name, self.version, self.toolchain, self.program, self.epoch)
+        return File(f"{self.name}.spdx.json", text)
+
     def completions(self, zsh: str) -> Iterator[File]:
         """Where shells look for them below PREFIX/share; `zsh` is zsh's folder. Those of bash and
         fish are one text under the name of each command."""
@@ -232,7 +232,7 @@ class Project:
             os.path.dirname(program): [File("bridge", self.program, 0o755)],
             f"{share}/minizinc/solvers": self.configurations(),
             os.path.dirname(share): self.completions(zsh),
-            f"{share}/doc/{self.name}": self.documents(),
+            f"{share}/doc/{self.name}": [*self.documents(), self.sbom()],
             f"{share}/{self.name}/examples": examples,
         }
         return [

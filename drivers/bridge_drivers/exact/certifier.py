@@ -30,10 +30,11 @@ from .integer_certifier import IntegerCertifier
 from .linear_certifier import LinearCertifier
 from .refutations import Refuter
 from .search_deadline import KEPT_SECONDS, SearchDeadline, SearchProgress
-from .task import CertificationTask, SearchOptions
+from .task import CertificationTask, ExactSolver, SearchOptions
 from .work_limit import limit_work
 from .worker_pools import WorkerPool
 
+BEYOND_DOUBLES = "a number of the model is beyond the range of doubles, by which is searched"
 DENIALS_OF_A_POINT = (AnswerClaim.INFEASIBLE,)
 DENIALS_OF_AN_OPTIMUM = (
     AnswerClaim.INFEASIBLE,
@@ -52,6 +53,7 @@ def certify(
     on_progress: Optional[Callable[[SearchProgress], None]] = None,
     options: SearchOptions = SearchOptions(),
     pool: Optional[WorkerPool] = None,
+    exact_solver: Optional[ExactSolver] = None,
 ) -> Evidence:
     """What can be proved of a program, beginning with what a solver said of it.
 
@@ -67,6 +69,7 @@ def certify(
         on_progress: Is told what goes on, in place of what the deadline had told.
         options: What is asked; among it the number of the objective.
         pool: Other processes that search.
+        exact_solver: Is asked for the exact optimum of a linear program where no basis has it.
 
     Returns:
         The first evidence that is proved, else why nothing is. Its numbers are by columns and rows
@@ -76,7 +79,7 @@ def certify(
     if on_progress is not None:
         deadline.on_progress = on_progress
     store = EvidenceStore(program, judge, options.objective, deadline)
-    task = CertificationTask(program, store, deadline, options, answer, pool)
+    task = CertificationTask(program, store, deadline, options, answer, pool, exact_solver)
     return Certifier(task).certify(claim)
 
 
@@ -129,15 +132,26 @@ class Certifier:
     def _certified(self, claim: AnswerClaim) -> Evidence:
         """As `certify`, without what is known beside the evidence."""
         try:
-            limit_all_work(Deadline(self.task.deadline.left_to_find()))
+            limit_all_work(self.task.deadline.to_find())
             return self._tried(claim)
         except (TimeOver, DeadlineExceeded):
             found = self._with_optimality_in_doubles(first_proved(self._known()))
             return found._replace(may_be_unbounded=self.refuter.may_be_unbounded())
         except (ClpNotInstalled, SearchEnded) as ended:
             return not_proved(ended)
+        except OverflowError:
+            return self._known_or(BEYOND_DOUBLES)
         finally:
             limit_all_work(Deadline())
+
+    def _known_or(self, reason: str) -> Evidence:
+        """What is proved by now of what is known, else that nothing is, for a reason in words."""
+        limit_all_work(Deadline(KEPT_SECONDS))
+        try:
+            found = first_proved(self._known())
+        except (OverflowError, TimeOver, DeadlineExceeded):
+            return not_proved(reason)
+        return found if found.is_proved else not_proved(reason)
 
     def certify_point(self) -> Evidence:
         """Where the solver has a point: that it is optimal, else a point and a bound.
@@ -255,7 +269,7 @@ class Certifier:
         """
         limit_all_work(Deadline())
         yield from self.integer.claim_known_tree()
-        limit_all_work(Deadline(self.task.deadline.left_of_all() - KEPT_SECONDS))
+        limit_all_work(self.task.deadline.to_find_at_last())
         with contextlib.suppress(TimeOver, SearchEnded):
             self._add_bound_at_last()
         limit_all_work(Deadline())

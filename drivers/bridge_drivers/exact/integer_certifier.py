@@ -6,11 +6,12 @@ tried is yielded as evidence, proved or not, of which the caller takes the first
 
 from __future__ import annotations
 
+import contextlib
 import itertools
 from fractions import Fraction
-from typing import Iterator, List, Optional, Sequence
+from typing import Iterator, Optional, Sequence
 
-from .short_duals import NO_MULTIPLIERS, box_bound, short_duals
+from .short_duals import NO_MULTIPLIERS, box_bound
 from ..model.integer_form import Box, Point
 from ..system.errors import SearchEnded
 from . import points
@@ -26,7 +27,8 @@ from .task import CertificationTask
 
 NO_EXACT_POINT = "no exact point has the answer's whole variables"
 ROUNDING = Fraction(1, 10**12)  # of the largest term of a row: as much may be rounding
-MOST_IMPROVEMENTS = 100  # points that a search may find one after the other
+# of a bound, or of 1: no answer's value is so much better by rounding
+FAR_BEYOND = Fraction(1, 10**6)
 REPAIR_NODES = 200  # of a search beside an answer
 REPAIR_SHARE = 0.25  # of the seconds that are left, for such a search
 
@@ -38,10 +40,8 @@ class IntegerCertifier:
         store: Points and bounds that are known, which all that is tried here adds to.
         refuter: Of the same program: shows that it has no point, or no bound.
         linear: Of the same program: adds bounds of its relaxation to the store.
-        incumbent: The point whose value the last portfolio is for; None before the first.
+        incumbent: The point whose value the portfolio is for; None before there is one.
         portfolio: That portfolio.
-        previous_portfolio: Of those before it, which were for worse values: the one that had the
-            greatest dual bound.
         is_answer_contradicted: No point has the answer's integer columns: they miss rows or bounds
             by more than rounding, or CLP finds no values for the other columns.
     """
@@ -54,7 +54,6 @@ class IntegerCertifier:
         self.linear = linear
         self.incumbent: Optional[Point] = None
         self.portfolio: Optional[Portfolio] = None
-        self.previous_portfolio: Optional[Portfolio] = None
         self.is_answer_contradicted = False
 
     def certify_answer(self, x: Sequence[Number]) -> Evidence:
@@ -159,7 +158,7 @@ class IntegerCertifier:
         clp = self.task.solve_relaxation().optimal_clp()
         if clp is None or not any(program.costs):
             return
-        self.linear.add_short_duals(short_duals(program, clp, self.task.deadline))
+        self.linear.add_short_bound(clp)
         duals = basis_duals(program, *clp.basis())
         box = Box(program.lower, program.upper)
         proof = LeafProver(program, None).prove_from_fractions(duals, MultiplierKind.DUAL, box)
@@ -167,61 +166,52 @@ class IntegerCertifier:
             self.store.add_leaf(proof.multipliers, is_exact=True)
 
     def _search_from(self, point: Point) -> Portfolio:
-        """Runs a portfolio at the point's value, minimised, then at that of each better one found.
+        """Runs a portfolio at the point's value, minimised, and at that of each better one found.
 
-        Sets `incumbent`, `portfolio` and `previous_portfolio`, and tells the deadline the incumbent
-        in the file's sense. With `proves` the portfolio is a race, else the plain search alone.
+        Sets `portfolio`, and what `_take_incumbent` sets. With `proves` the portfolio is a race,
+        else the plain search alone.
 
         Returns:
-            The portfolio that was run last, whose `best` is None where it found no tree: where the
-            time was over, CLP is not installed, or better points did not end within
-            MOST_IMPROVEMENTS.
+            The portfolio, whose `best` is None where it found no tree: where the time was over, a
+            node did not close, or CLP is not installed.
         """
-        for _ in range(MOST_IMPROVEMENTS):
-            portfolio = self.task.portfolio(self.program, self.program.value(point))
-            self.store.add_point(point)
-            self.incumbent, self.portfolio = point, portfolio
-            best = self.store.point
-            if best is not None:
-                value = self.program.sign * self.program.value(best)
-                self.task.deadline.incumbent = float(value)
-            try:
-                is_race = self.task.options.proves
-                improved = portfolio.race() if is_race else portfolio.run_plain()
-            except ClpNotInstalled:
-                return portfolio
-            if improved is None:
-                return portfolio
-            point = improved.point
-            known = [p for p in (self.previous_portfolio, portfolio) if p is not None]
-            self.previous_portfolio = max(known, key=lambda p: p.dual_bound)
-        self.store.add_point(point)
-        self.incumbent = self.store.point or self.incumbent
+        portfolio = self.task.portfolio(self.program, self.program.value(point))
+        portfolio.on_improved = self._take_incumbent
+        self.portfolio = portfolio
+        self._take_incumbent(point)
+        with contextlib.suppress(ClpNotInstalled):
+            if self.task.options.proves:
+                portfolio.race()
+            else:
+                portfolio.run_plain()
         return portfolio
 
-    def _add_searched_bound(self) -> None:
-        """Adds the bound that a stopped search proves to the store, whatever value it was for.
+    def _take_incumbent(self, point: Point) -> None:
+        """Adds a point to the store, makes it `incumbent`, and tells the deadline the best value in
+        the file's sense."""
+        self.store.add_point(point)
+        self.incumbent = point
+        best = self.store.point
+        if best is not None:
+            self.task.deadline.incumbent = float(self.program.sign * self.program.value(best))
 
-        The portfolio with the greater dual bound in doubles comes first, and the first that proves
-        one will do. Its search cannot go on.
-        """
-        known: List[Portfolio] = [
-            p for p in (self.portfolio, self.previous_portfolio) if p is not None
-        ]
-        for portfolio in sorted(known, key=lambda p: -p.dual_bound):
-            reports = "; ".join(portfolio.reports())
-            found = portfolio.prove_bound()
-            if found is not None:
-                bound = BoundEvidence(found.value, found.tree.lines, reports, {}, is_tree=True)
-                self.store.add_bound(bound)
-                return
+    def _add_searched_bound(self) -> None:
+        """Adds the bound that a stopped search proves to the store. The search cannot go on."""
+        if self.portfolio is None:
+            return
+        reports = "; ".join(self.portfolio.reports())
+        found = self.portfolio.prove_bound()
+        if found is not None:
+            bound = BoundEvidence(found.value, found.tree.lines, reports, {}, is_tree=True)
+            self.store.add_bound(bound)
 
     def _without_exact_point(self, x: Sequence[Number], violation: Fraction) -> Evidence:
         """Where no exact point has the answer's integer columns: a refutation, or what is found.
 
         A claim of a point that is worse than the answer does not take the answer's place, unless it
-        is `optimal` or the answer is contradicted. Where nothing takes it, the answer comes back as
-        not proved, with the reason and with `contradicts_answer`.
+        is `optimal` or the answer is contradicted, as it is by a bound that is far beyond its
+        value. Where nothing takes it, the answer comes back as not proved, with the reason and with
+        `contradicts_answer`.
 
         Args:
             x: The answer's values by column.
@@ -229,12 +219,14 @@ class IntegerCertifier:
                 (`points.integer_residual`); up to ROUNDING it may be rounding alone.
         """
         found = first_proved(self._tried_without_point(violation))
-        claimed = found.point
+        claimed, value = found.point, self.program.value([Fraction(v) for v in x])
         is_worse = (
-            claimed is not None
-            and found.claim != "optimal"
-            and self.program.value(claimed) > self.program.value([Fraction(v) for v in x])
+            claimed is not None and found.claim != "optimal" and self.program.value(claimed) > value
         )
+        bound = self.store.bound
+        size = Fraction(1) if bound is None else max(Fraction(1), abs(bound.value))
+        if bound is not None and bound.value - value > FAR_BEYOND * size:
+            self.is_answer_contradicted = True
         if found.is_proved and (self.is_answer_contradicted or not is_worse):
             return found
         reason = NO_EXACT_POINT

@@ -28,7 +28,7 @@ from .dual_bound import MultiplierKind
 from .hermite import LARGEST_NUMBER, Equation, integer_equations
 from .lattice import LLLReduction, column_widths, reduced_modulo
 from .leaf_proofs import from_fractions
-from .portfolio import TreeText
+from .strategies import TreeText
 from .rational_simplex import RationalSimplex, SimplexResult
 from .tree import Split, Tree, leaf_of, node_count
 from .work_limit import check_work

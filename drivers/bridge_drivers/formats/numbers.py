@@ -30,6 +30,7 @@ SIGNIFICANT = decimals_module.Context(
 
 # No text that the proved program writes comes near these limits, under which reading is quick.
 MOST_DIGITS_READ = 4000
+MOST_DIGITS_OF_COUNT = 18  # of a count, an index or an opcode, zeros in front aside
 LARGEST_EXPONENT_READ = 9999
 EXPONENT_DIGITS_READ = 6  # with a sign
 
@@ -64,6 +65,24 @@ def read_decimal(text: bytes) -> ScientificNumber:
     if abs(exponent) > LARGEST_EXPONENT_READ:
         raise NotDecimal(f"a number with the exponent {exponent}")
     return ScientificNumber(integer, exponent - len(places))
+
+
+def read_whole(word: Union[str, bytes]) -> int:
+    """The one reader of counts and indices of texts: ASCII digits without a sign.
+
+    Args:
+        word: A word of a file, or of a call.
+
+    Raises:
+        NotDecimal: The word is none, or has more digits than any count.
+    """
+    text = word.decode("latin-1") if isinstance(word, bytes) else word
+    digits = text.lstrip("0") or text[-1:]
+    if len(digits) > MOST_DIGITS_OF_COUNT:
+        raise NotDecimal(f"a number of {len(text)} characters")
+    if not (digits.isascii() and digits.isdigit()):
+        raise NotDecimal(f"no number: {text[:40]!r}")
+    return int(digits)
 
 
 @lru_cache(maxsize=1 << 16)

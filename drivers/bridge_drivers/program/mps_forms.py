@@ -2,15 +2,17 @@
 
 from __future__ import annotations
 
+import contextlib
 import itertools
 from fractions import Fraction
 from typing import List, Mapping, NamedTuple, Optional, Sequence, Tuple
 
-from ..formats.file_kinds import model_kind_of_start
-from ..formats.numbers import read_fraction
+from ..formats.file_kinds import kind_of_model
+from ..formats.numbers import read_fraction, read_whole
 from ..model.linear_program import LinearProgram
 from ..formats.mps import MpsColumns, read_mps
 from ..system.codes import ExitStatus
+from ..system.errors import NotDecimal
 from ..system.files import OutputFiles, write_new
 from .bridge import Bridge, ModelForm
 from .calls import Command, Reply
@@ -41,12 +43,14 @@ class MpsRefusal(Refusal):
         words: Sequence[str] = (),
         file_names: Optional[Mapping[str, str]] = None,
     ) -> None:
+        """As of `Refusal`; whoever raises it sets place, name and remark where they are known."""
         super().__init__(command, reply, words, file_names)
         self.place = ""
         self.name = ""
         self.remark = ""
 
     def describe(self) -> str:
+        """As of `Refusal`, with the name behind the place, and the remark at the end."""
         line = super().describe()
         if self.name:
             line = line.replace(f" {self.place}: ", f" {self.place} ({self.name}): ", 1)
@@ -110,7 +114,9 @@ def _refusal_of_forms(bridge: Bridge, path: str, free: Reply, fixed: Reply) -> R
 def _line_of(told: str) -> int:
     """The number at the place of a refusal; 0 where there is none."""
     words = told.partition(":")[0].split()
-    return int(words[-1]) if words and words[-1].isdigit() else 0
+    with contextlib.suppress(NotDecimal, IndexError):
+        return read_whole(words[-1])
+    return 0
 
 
 def has_blank_name(path: str, number: int) -> bool:
@@ -150,9 +156,9 @@ def _try_to_judge(bridge: Bridge, path: str, certificate: str, program: LinearPr
     refusal.place = reply.told.removeprefix("refused ").partition(":")[0]
     kind, _, number = refusal.place.partition(" ")
     if number.isdigit() and kind == "row":
-        refusal.name = program.own_names.row(int(number))
+        refusal.name = program.own_names.row(read_whole(number))
     elif number.isdigit() and kind == "column":
-        refusal.name = program.own_names.column(int(number))
+        refusal.name = program.own_names.column(read_whole(number))
     raise refusal
 
 
@@ -216,6 +222,7 @@ def _in_nl_order(read: MpsColumns) -> List[int]:
     low, high = read.bounds()
 
     def group(column: int) -> int:
+        """Where a column stands: 0 continuous, 1 binary, 2 integer with other bounds."""
         lower, upper = low[column], high[column]
         if not read.is_integer[column]:
             return 0
@@ -258,7 +265,8 @@ def import_mps(bridge: Bridge, path: str, nl: str, *, overwrite: bool = False) -
         stub + ".row": b"".join(name + b"\n" for name in model.rows),
         stub + ".col": b"".join(name + b"\n" for name in model.columns),
     }
-    outputs = OutputFiles([path], model_kind_of_start, overwrite=overwrite)
+    reads = [path, bridge.file_names.get(path, path)]
+    outputs = OutputFiles(reads, kind_of_model, overwrite=overwrite)
     for target, data in texts.items():
         outputs.check(target, data)
     for target, data in texts.items():

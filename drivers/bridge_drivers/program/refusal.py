@@ -15,12 +15,14 @@ from typing import Dict, List, Mapping, NamedTuple, Optional, Sequence, Tuple
 from ..formats import file_kinds
 from ..formats.names import NameLists, comment_of, numbered_name
 from ..formats.nl_expressions import expression_in_words
+from ..formats.numbers import read_whole
 from ..system.codes import ExitStatus
 from ..system.errors import (
     BridgeError,
     FileAction,
     FileFault,
     ModelRefused,
+    NotDecimal,
     NotInstalled,
     ProgramFailed,
     WrongOption,
@@ -74,6 +76,14 @@ class Refusal(ProgramFailed):
         words: Sequence[str] = (),
         file_names: Optional[Mapping[str, str]] = None,
     ) -> None:
+        """Of one call of the proved program; its sentence is made when it is asked for.
+
+        Args:
+            command: The word of the command.
+            reply: How the call ended; its status is none that goes with an answer.
+            words: All words of the call; empty where they are not known.
+            file_names: What the user calls files, by the paths among the words.
+        """
         super().__init__(reply.told)
         self.command = command
         self.status = reply.status
@@ -183,11 +193,13 @@ class RefusalText:
         self.line = one_line(self._text())
 
     def _file_name(self) -> str:
+        """What the user calls the file that is refused; "" where the line names none of the call."""
         if self.parsed is None or not 1 <= self.parsed.file <= len(self.files):
             return ""
         return self.shown_files[self.parsed.file - 1]
 
     def _text(self) -> str:
+        """The whole sentence: file, place, expression, reason; the told line where it is no refusal."""
         parsed = self.parsed
         if parsed is None or not self.file_name:
             return self.told + meaning_of(self.told.rpartition(": ")[2])
@@ -338,8 +350,8 @@ def counts_of_nl(path: str) -> Tuple[Optional[int], Optional[int]]:
         with open(path, "rb") as file:
             file.readline(LONGEST_HEAD_LINE)
             words = file.readline(LONGEST_HEAD_LINE).split()
-        return int(words[0]), int(words[1])
-    except (OSError, ValueError, IndexError):
+        return read_whole(words[0]), read_whole(words[1])
+    except (OSError, NotDecimal, IndexError):
         return None, None
 
 
@@ -402,7 +414,10 @@ def place_of(segment: Segment, line: int, names: NameLists) -> str:
     if letter in PLACES:
         return PLACES[letter]
     found = re.match(rb"[A-Za-z](\d+)", segment.head)
-    number = int(found.group(1)) if found else 0
+    try:
+        number = read_whole(found.group(1) if found else b"0")
+    except NotDecimal:  # of more digits than anything is counted by
+        return "a segment"
     return _numbered_place(letter, number, comment_of(segment.head), names)
 
 

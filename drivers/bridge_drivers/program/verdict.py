@@ -42,6 +42,7 @@ NOT_PROVED = re.compile(
     rf"|leaf {PLACE} (?:too wide|gap {NUMBER}|(?:row|bound) {PLACE} has no side)",
     re.ASCII,
 )  # docs/verify/theorems.md says what each of these lines means
+PROVED_BY_BRANCHES = "proved"  # what `bridge prove` says of a proof that holds
 CHECKED = re.compile(rf"yes {NUMBER}", re.ASCII)
 NOT_CHECKED = re.compile(
     rf"gap {NUMBER} {NUMBER}"
@@ -49,6 +50,13 @@ NOT_CHECKED = re.compile(
     rf"|too wide at (?:objective|total|(?:row|cost) {PLACE})",
     re.ASCII,
 )  # of `bridge check`
+
+
+# how a line begins that says what is proved, or that nothing is; of `check` and `prove`, too
+BEGINS_AS_VERDICT = re.compile(
+    r"(?:optimal|feasible|within|bound|infeasible|unbounded|yes|proved|not proved)\b", re.ASCII
+)
+INDENTATION = "  "  # of a line that begins so and is no verdict
 
 
 class Claim(enum.Enum):
@@ -106,6 +114,7 @@ class Statement(NamedTuple):
         )
 
     def _has_as_good_a_value(self, other: Statement, maximise: bool) -> bool:
+        """Whether a point is claimed wherever the other claims one, with no worse an objective."""
         if other.value is None:
             return True
         if self.value is None:
@@ -113,6 +122,7 @@ class Statement(NamedTuple):
         return self.value >= other.value if maximise else self.value <= other.value
 
     def _has_as_close_a_bound(self, other: Statement, maximise: bool) -> bool:
+        """Whether a bound is claimed wherever the other claims one, and is no further away."""
         if other.bound is None:
             return True
         if self.bound is None:
@@ -128,6 +138,7 @@ class NoVerdict(ProgramFailed):
     """
 
     def __init__(self, reply: Reply) -> None:
+        """Of the reply, of whose text the first SHOWN_BYTES of a line are told."""
         start = reply.out.partition(b"\n")[0][:SHOWN_BYTES]
         more = " and more" if len(reply.out) > len(start) + 1 else ""
         shown = start.decode("utf-8", "replace")
@@ -135,6 +146,7 @@ class NoVerdict(ProgramFailed):
         self.reply = reply
 
     def describe(self) -> str:
+        """That the program is not the proved one, and what it said."""
         return f"the program `bridge` is not the proved one: {self.reason}"
 
 
@@ -154,6 +166,7 @@ class Verdict:
     statement: Optional[Statement] = field(init=False)
 
     def __post_init__(self) -> None:
+        """Reads the reply once; there is no other way to a statement."""
         object.__setattr__(self, "statement", _read_reply(self.reply))
 
     @property
@@ -175,6 +188,28 @@ def _read_reply(reply: Reply) -> Optional[Statement]:
         return statement
     if reply.status == 1 and NOT_PROVED.fullmatch(line):
         return None
+    raise NoVerdict(reply)
+
+
+def set_apart(line: str) -> str:
+    """A line that is no verdict, so that it does not begin as one does: it is indented then.
+
+    Names, paths and logs may hold any words. The console asks it of all that it tells beside a
+    verdict, and `pipeline.outputs` of the lines above one in a .sol.
+    """
+    return INDENTATION + line if BEGINS_AS_VERDICT.match(line) else line
+
+
+def read_proof(reply: Reply) -> str:
+    """The line of `bridge prove` on a proof by branches: `proved`, or why it proves nothing.
+
+    Raises:
+        NoVerdict: The line does not belong to the status, or is none.
+    """
+    line = _only_line(reply)
+    is_proved = reply.status == 0 and line == PROVED_BY_BRANCHES
+    if is_proved or (reply.status == 1 and NOT_PROVED.fullmatch(line)):
+        return line
     raise NoVerdict(reply)
 
 
