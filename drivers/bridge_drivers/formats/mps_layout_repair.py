@@ -15,6 +15,8 @@ COMMENT = b"$"  # of the first word of a comment, in the third or fifth field of
 SECTION_HEAD = re.compile(rb"(NAME|ROWS|COLUMNS|RHS|RANGES|BOUNDS|ENDATA)\b")  # of one line
 BLANK_FIELD = b"\n" + b" " * 12  # a line whose first two fields are blank
 NAMED_LINES = (b"COLUMNS", b"RHS", b"RANGES")  # sections whose lines begin with a name
+BLANK_SET = b" " * 10  # behind the kind of a bound
+KINDS_WITHOUT_VALUE = (b"FR", b"MI", b"PL", b"BV")
 FIELD_OF_ROW = 14  # where the third field begins in fixed columns
 # how many words a line can have before a comment, by section: all of its fields, or its first pair
 WORDS_BEFORE_COMMENT: Dict[bytes, tuple[int, ...]] = {
@@ -163,6 +165,37 @@ def blank_names_repair(text: bytes) -> Optional[Repair]:
     return Repair(edits, f"{lines} a blank where a name stands: that of the line before is read")
 
 
+def blank_sets_repair(text: bytes) -> Optional[Repair]:
+    """The edits that write the set's name where a line of BOUNDS leaves its field blank, though a
+    line before has it; None where none does.
+    """
+    start = 0 if text.startswith(b"BOUNDS") else text.find(b"\nBOUNDS") + 1
+    if not text.startswith(b"BOUNDS", start) or text.find(BLANK_SET, start) < 0:
+        return None
+    edits, name = [], b""
+    for at, end in _data_lines(text, start):
+        words = text[at:end].split()
+        is_bare = bool(words) and words[0].upper() in KINDS_WITHOUT_VALUE
+        if len(words) == 4 - is_bare:
+            name = words[1]
+        elif name and len(words) == 3 - is_bare and text[at + 3 : at + FIELD_OF_ROW].isspace():
+            edits.append(Edit(at + 3, at + FIELD_OF_ROW, b" " + name.ljust(10)))
+    if not edits:
+        return None
+    lines = "1 line of BOUNDS has" if len(edits) == 1 else f"{len(edits)} lines of BOUNDS have"
+    return Repair(edits, f"{lines} a blank where the set stands: that of the line before is read")
+
+
+def _data_lines(text: bytes, start: int) -> Iterator[tuple[int, int]]:
+    """The lines of the section whose head begins at `start`, each from its first byte as far as
+    the byte behind its end."""
+    at = text.find(b"\n", start) + 1
+    while 0 < at < len(text) and (text[at : at + 1].isspace() or text[at : at + 1] == b"*"):
+        end = text.find(b"\n", at) + 1 or len(text)
+        yield at, end
+        at = end
+
+
 def _blank_lines(text: bytes) -> Iterator[tuple[int, int]]:
     """The lines whose first two fields are blank, each from its first byte as far as its end."""
     at = text.find(BLANK_FIELD)
@@ -211,16 +244,13 @@ def double_bounds_repair(text: bytes) -> Optional[Repair]:
         return None
     endless: Dict[bytes, Edit] = {}
     edits: List[Edit] = []
-    at = text.find(b"\n", start) + 1
-    while 0 < at < len(text) and text[at : at + 1].isspace() or text[at : at + 1] == b"*":
-        end = text.find(b"\n", at) + 1 or len(text)
+    for at, end in _data_lines(text, start):
         words = text[at:end].split()
         kind = words[0].upper() if words else b""
         if kind == b"PL" and len(words) in (2, 3):
             endless[words[-1]] = Edit(at, end, b"")
         elif kind == b"UP" and len(words) in (3, 4) and words[-2] in endless:
             edits.append(endless.pop(words[-2]))
-        at = end
     if not edits:
         return None
     columns = "1 column has" if len(edits) == 1 else f"{len(edits)} columns have"

@@ -14,6 +14,7 @@ from .mps_layout_repair import (
     Edit,
     Repair,
     blank_names_repair,
+    blank_sets_repair,
     comments_repair,
     double_bounds_repair,
     edited,
@@ -33,6 +34,7 @@ LAYOUT_REPAIRS: Sequence[Callable[[bytes], Optional[Repair]]] = (
     comments_repair,
     name_repair,
     blank_names_repair,
+    blank_sets_repair,
     double_bounds_repair,
 )
 

@@ -105,6 +105,23 @@ def test_a_long_name_and_a_set() -> None:
     assert notes[0].startswith("3 lines have a blank")
 
 
+@given(st.lists(st.sampled_from(["UP", "LO", "FR", "MI"]), min_size=1, max_size=5))
+def test_blank_sets(kinds: List[str]) -> None:
+    """In BOUNDS, where a line before names the set."""
+
+    def line(kind: str, name: str) -> str:
+        return f" {kind} {name:<10}X0" + ("        3" if kind in ("UP", "LO") else "")
+
+    first = " UP BND1      X9        3"
+    got, notes = repair_mps(text_of([], ROWS, [first, *(line(kind, "") for kind in kinds)]))
+    assert got == text_of([], ROWS, [first, *(line(kind, "BND1") for kind in kinds)])
+    have = "1 line of BOUNDS has" if len(kinds) == 1 else f"{len(kinds)} lines of BOUNDS have"
+    told = f"{have} a blank where the set stands: that of the line before is read"
+    assert notes == [told, CHANGED]
+    unnamed = text_of([], ROWS, [line(kind, "") for kind in kinds])
+    assert repair_mps(unnamed) == (unnamed, [])
+
+
 @pytest.mark.parametrize(
     "head, left",
     [
@@ -168,6 +185,7 @@ def repeated(front: bytes, piece: bytes) -> Callable[[int], bytes]:
         (b"NAME\nENDATA\n", b"NAME\n"),
         (b"BOUNDS\n", b" PL BND x\n UP BND x 1\n"),
         (b"BOUNDS\n PL x\n", b"\n"),
+        (b"BOUNDS\n UP B x 3\n", b" UP           x  3\n"),
         (b"ROWS\n", b"ROWS $\n"),
     ],
 )
