@@ -81,7 +81,10 @@ def test_errors_that_say_want_of_memory() -> None:
     [
         ("pub fn f(\n    a: u32,\n", "line 3: ) is awaited, not the end"),
         ("\npub fn f() -> u8\n", "line 3: a clause or a body is awaited"),
-        ("pub fn f() -> u8\n    promises { a }\n    ensures { b }\n{}\n", "line 3: an item is awaited"),
+        (
+            "pub fn f() -> u8\n    promises { a }\n    ensures { b }\n{}\n",
+            "line 3: an item is awaited",
+        ),
         ("impl Kept {\n    pub fn f() {}\n", "line 3: } is awaited"),
     ],
 )
