@@ -230,7 +230,7 @@ module _ (f : Linear) (c : CertificateValue) (h : IsCertificateOf f c) where
 
   module _ (p : Problem) (means : Means f p) where
     -- what a verdict says of a problem that the linear program means
-    abbrev Says : ℕ → ℕ → Given → ClaimOutcome → Type 0
+    abbrev pub Says : ℕ → ℕ → Given → ClaimOutcome → Type 0
     Says n m g (holds value) = IsToldTrue p (spread n g.point) (told_claim c.claim value)
     Says n m g (fails cause) = Denies p f (certificate_over n m c.claim g) cause
 
@@ -239,7 +239,7 @@ module _ (f : Linear) (c : CertificateValue) (h : IsCertificateOf f c) where
     says (fails cause) e = told_denied f p means c h cause e
 
     -- it is so of what is shown
-    says_so : Says p.variables p.constraints (given_in c) (claim_shown f c)
+    pub says_so : Says p.variables p.constraints (given_in c) (claim_shown f c)
     says_so =
         subst (λ (g : Given). Says p.variables p.constraints g (claim_outcome f c.claim g)) (sym back)
         (subst (λ n. Says n p.constraints h.given (claim_outcome f c.claim h.given)) (sym means.variables)
