@@ -1,26 +1,27 @@
 -- What an .nl text and a certificate come to as a .sol text: one outcome, and what each verdict means.
-use Rattle.std.proofs.Common.{[], ◌∷◌, ◌≡◌, ◌∙◌, inl, inr, ◌⊎◌, ℕ, ◌+◌, ◌-◌, ◌<◌, ◌≤◌, ◌^◌, ℤ, pos, Bool, true, false, List, Option, Some, None, Result, Ok, Err, refl, sym, ap, ap₂, subst, arith, codes, length, take}
-use Rattle.std.specs.Prelude.{◌++◌, IfOk, option_map}
+use Rattle.std.proofs.Common.{[], ◌∷◌, ◌≡◌, ◌≢◌, ◌∙◌, inl, inr, ℕ, ◌+◌, ◌-◌, ◌<◌, ◌≤◌, ◌^◌, ℤ, pos, Bool, true, false, List, Option, Some, None, Result, Ok, Err, refl, sym, ap, ap₂, subst, arith, codes, length, take}
+use Rattle.std.specs.Prelude.{◌++◌, IfOk, IsSomeAnd, option_map}
 use Rattle.std.specs.Option.{option_map_or}
 use Rattle.std.specs.Global.{Vec}
 use Rattle.std.proofs.lemmas.Option.{same_Some}
 use Rattle.text_base.specs.declared.stop.Stop.{Stop}
 use Rattle.exact_numbers.specs.Rational.{ℚ}
-use Rattle.linear_program.specs.Linear.{Linear, row_count, variable_count}
-use Rattle.certificates.specs.Certificate.{Certificate, Cause, ClaimOutcome, feasible as feasible_at, fails, holds, outcome, judged, Judged, valued, refused}
+use Rattle.linear_program.specs.Linear.{Linear, variable_count}
+use Rattle.certificates.specs.Certificate.{Cause, ClaimOutcome, feasible as feasible_at, fails, holds, outcome, judged, Judged, valued, refused}
 use Rattle.certificates.specs.Means.{Means}
 use Rattle.certificates.specs.Problem.{Problem, IsFeasible}
-use Rattle.certificates.specs.ProblemSays.{Denies}
 use Rattle.certificates.specs.ToldMeaning.{Told, IsTrueOf, optimal, within, bound, feasible, infeasible, unbounded}
 use Rattle.linear_program.specs.Numbers.{number_value, spread}
 use Rattle.nl_segments.specs.Grammar.{NlValue}
-use Rattle.certificates.specs.Certificates.{CertificateValue, Given, certificate_over, claim_objective}
+use Rattle.certificates.specs.Certificates.{CertificateValue, Given, claim_objective}
 use Rattle.certificates.specs.Reading.{given_in}
 use Rattle.certificates.specs.Told.{told_claim}
 use Rattle.certificates.specs.declared.certificate.Claim.{Claim}
 use Rattle.certificates.specs.declared.certificate.Claim.TheVariants.{Optimal, Within, Bound, Feasible, Infeasible, Unbounded}
 use Rattle.certificate_text.specs.Reader.{IsCertificateText}
-use Rattle.certified_solution.specs.Solution.{HasOneSolution, IsSolutionOf, code_of, point_values, values_of}
+use Rattle.certified_solution.specs.Solution.{HasOneSolution, IsSolutionOf, code_of, point_values}
+use Rattle.certified_solution.specs.Lagrangian.{ShowBound}
+use Rattle.exact_checks.specs.Terms.{value_found, values_of}
 use Rattle.certified_solution.proofs.One.{one_solution}
 use Rattle.problems.specs.NlSetting.{setting_of}
 use Rattle.sol_files.specs.Sol.{Sol}
@@ -31,7 +32,7 @@ use Rattle.command_parts.specs.CertificateTold.{objective_text, outcome_text, to
 use Rattle.command_parts.specs.Refusal.{IsCertificateRefused}
 use Rattle.command_parts.specs.Stages.{fold_steps}
 use Rattle.command_parts.proofs.TextsRead.{certificate_read}
-use Rattle.bridge_tool.specs.Certified.{ByLinear, ByShown, CertifiesAs, IsNotDecimalLine, IsPointTold, IsSolTrue, IsTextMade, TextComes, shown_of, told_code}
+use Rattle.bridge_tool.specs.Certified.{ByLinear, ByShown, CertifiesAs, IsNotDecimalLine, IsPointTold, IsSolTrue, IsTextMade, TextComes, shown_of, told_bound, told_code}
 use Rattle.bridge_tool.specs.Verify.{nl_claim_row}
 use Rattle.std.proofs.lemmas.List.{length-append, take_at}
 use Rattle.nl_model.specs.File.{File}
@@ -60,14 +61,28 @@ use Rattle.command_core.specs.SeveralFiles.{ByVerdict, Comes, desk_promise}
 use Rattle.command_core.specs.declared.answer.Answer.{Answer}
 use Rattle.command_core.specs.declared.refused.Refusal.{Refusal}
 use Rattle.command_core.proofs.SeveralFiles.{meant_as, text_so, value_said}
-use Rattle.command_parts.specs.CertificateTold.{is_held, outcome_line}
+use Rattle.command_parts.specs.CertificateTold.{is_held}
 use Rattle.command_parts.specs.NlTold.{fold_line}
 use Rattle.command_parts.specs.Refusal.{HasTextRefusal}
 use Rattle.command_parts.specs.Stages.{HasFolded}
 use Rattle.bridge_tool.specs.Certified.{IsCertifiedTrue, IsNotShown, SaysCertified, certified_promise, certified_read}
-use Rattle.bridge_tool.specs.Verify.{by_linear, claim_shown}
+use Rattle.bridge_tool.specs.Verify.{claim_shown}
 use Rattle.bridge_tool.specs.declared.verify.ProblemText.TheVariants.{Nl}
-use Rattle.bridge_tool.proofs.Programs.{Says, claimed, says_so}
+use Rattle.bridge_tool.proofs.Duals.{duals_so}
+use Rattle.bridge_tool.proofs.Exporting.{text_file}
+use Rattle.bridge_tool.proofs.Messages.{message_line, told_fits}
+use Rattle.bridge_tool.proofs.Programs.{Says, back, bound_fits, claimed, folds_clean, says_so}
+use Rattle.certificate_judge.specs.Outcomes.{outcome_of}
+use Rattle.certificate_judge.specs.declared.outcome.Outcome.{Outcome as Judgement}
+use Rattle.certificate_judge.specs.declared.outcome.Outcome.TheVariants.{Holds, Fails}
+use Rattle.nl_model.specs.LinearFile.{HasLines, linear_of}
+use Rattle.nl_model.proofs.Folding.{clean_has_lines}
+use Rattle.nl_model.proofs.Formed.{file_formed}
+use Rattle.problems.specs.FileProblem.{problem_of}
+use Rattle.problems.specs.Files.{IsCertificateIn}
+use Rattle.problems.proofs.Given.{certificate_of}
+use Rattle.sol_files.specs.Built.{IsMessageLine}
+use Rattle.certificates.specs.Certificates.{IsAskedFor}
 
 -- ---- one outcome
 
@@ -164,13 +179,16 @@ module _ (p : Problem) (n : ℕ) (g : Given) where
   point_at (Unbounded k) (Some w) told e h ray = absurd cc
 
   -- ---- the .sol value says it
-  pub sol_true : (options : List ℤ) (m : ℕ) (claim : Claim) (o : Option ℚ) (told : Told) (s : Sol) → told_claim claim o ≡ Some told → IsTrueOf p point told → IsRayPoint claim → IsSolutionOf options m n (outcome_text claim (holds o)) claim g s → IsSolTrue p (claim_objective claim) s
-  sol_true options m claim o told s e h ray is = record {
+  pub sol_true : (options : List ℤ) (m : ℕ) (claim : Claim) (o : Option ℚ) (told : Told) (s : Sol) → told_claim claim o ≡ Some told → IsTrueOf p point told → IsRayPoint claim
+      → (values_of s.duals ≢ [] → IsSomeAnd (told_bound told) (ShowBound p (values_of s.duals)))
+      → IsSolutionOf options m n (outcome_text claim (holds o)) claim g s → IsSolTrue p (claim_objective claim) s
+  sol_true options m claim o told s e h ray shown is = record {
     told = told;
     message = is.message ∙ ap (λ (t : Option Told). (option_map_or told_text t [] ++ objective_text (claim_objective claim)) ∷ []) e;
     objno = is.objno ∙ ap (λ (k : ℕ). Some (pos (claim_objective claim), pos k)) (code_at claim o told e);
     point = subst (λ xs. IsPointTold p xs told) (sym is.primals) (point_at claim o told e h ray);
     true_of = subst (λ xs. IsTrueOf p xs told) (sym is.primals) (true_at claim o told e h);
+    duals = shown;
   }
 
 -- ---- the point of a claim with a ray is feasible
@@ -222,13 +240,22 @@ module _ (text given : List ℕ) (nl : NlValue) (c : CertificateValue) (reads : 
     meant : Means f p
     meant = (claimed Nl).means text nl k reads none
 
+    lines : HasLines nl.file k
+    lines =
+        let file = text_file text nl reads in
+        clean_has_lines nl.file k (file_formed nl.file file k) (folds_clean nl k none)
+
+    asked : IsAskedFor c.claim (given_in c)
+    asked = subst (IsAskedFor c.claim) (sym (back f c certificate_so)) certificate_so.asked
+
     yes_means : (value : Option ℚ) (bytes : List ℕ) → shown_of nl c ≡ holds value → IsTextMade nl.file.options nl.file.counts.n_con nl.file.counts.n_var (outcome_text c.claim (holds value)) c bytes → IsCertifiedTrue nl c bytes
     yes_means value bytes is made =
         let so : IsToldTrue p (spread p.variables (given_in c).point) (told_claim c.claim value) = subst (Says f c certificate_so p meant p.variables p.constraints (given_in c)) is (says_so f c certificate_so p meant) in
         record {
           sol = made.0;
           text = made.1.1;
-          true_of = sol_true p nl.file.counts.n_var (given_in c) nl.file.options nl.file.counts.n_con c.claim value so.told made.0 so.is_told so.true_of (ray_so f p meant (given_in c) value c.claim is) made.1.0;
+          true_of = sol_true p nl.file.counts.n_var (given_in c) nl.file.options nl.file.counts.n_con c.claim value so.told made.0 so.is_told so.true_of (ray_so f p meant (given_in c) value c.claim is)
+              (duals_so nl.file k lines c.claim (given_in c) value so.told asked is so.is_told (values_of made.0.duals) made.1.0.duals_are) made.1.0;
         }
 
     no_means : (cause : Cause) → shown_of nl c ≡ fails cause → IsNotShown nl c
@@ -271,9 +298,6 @@ module _ (first certificate : List ℕ) where
 
 -- ---- what the code answers
 
-by_held : (c : CertificateValue) (shown : ClaimOutcome) (held : Bool) (line : List ℕ) → Done held line ≡ by_linear c shown None → (held ≡ is_held shown) × (line ≡ outcome_line c.claim shown)
-by_held c shown held line e = (cc, cc)
-
 module _ (nl : NlValue) (c : CertificateValue) (l : LinearValue) (folds : HasFolded nl (claim_objective c.claim) l) where
   none_so : nl_claim_row.no_linear nl (claim_objective c.claim) ≡ None
   none_so = ap (λ (o : Option FoldFault). option_map (fold_line nl.places) (option_map (named_fault nl.file) o)) folds.fine
@@ -285,29 +309,29 @@ module _ (nl : NlValue) (c : CertificateValue) (l : LinearValue) (folds : HasFol
   as_shown shown is o h =
       subst (λ (line : Option (List ℕ)). ByLinear nl c (shown_of nl c) line o) (sym none_so) (subst (λ (s : ClaimOutcome). ByShown nl c s o) (sym is) h)
 
-  module _ (held : Bool) (line : List ℕ) (told : Done held line ≡ by_linear c (claim_shown (linear_value l) c) None) where
-    told_so : (held ≡ is_held (shown_of nl c)) × (line ≡ outcome_line c.claim (shown_of nl c))
-    told_so = by_held c (shown_of nl c) held line (told ∙ ap (λ (s : ClaimOutcome). by_linear c s None) shown_is)
-
-    pub not_held : held ≡ false → CertifiesAs nl c (Done false [])
-    not_held e = by (shown_of nl c) refl
+  module _ (o : ClaimOutcome) (is : o ≡ claim_shown (linear_value l) c) where
+    pub not_held : is_held o ≡ false → CertifiesAs nl c (Done false [])
+    not_held e = by o (sym (is ∙ shown_is)) e
       where
-        by : (shown : ClaimOutcome) → shown_of nl c ≡ shown → CertifiesAs nl c (Done false [])
-        by (fails cause) is = as_shown (fails cause) is (Done false []) refl
-        by (holds value) is = (let no : false ≡ is_held (holds value) = sym e ∙ told_so.0 ∙ ap is_held is in absurd cc)
+        by : (shown : ClaimOutcome) → shown_of nl c ≡ shown → is_held shown ≡ false → CertifiesAs nl c (Done false [])
+        by (fails cause) same e = as_shown (fails cause) same (Done false []) refl
+        by (holds value) same e = absurd cc
 
-    -- the message is the line without its end
-    pub held_value : held ≡ true → (value : Option ℚ) × (shown_of nl c ≡ holds value) × (line ≡ outcome_text c.claim (holds value) ++ codes "\n")
-    held_value e = by (shown_of nl c) refl
+    abbrev TextWith : List ℕ → Result (Bool × Vec ℕ) (Stop Refusal) → Type 0
+    TextWith line judged = Comes (TextComes nl.file.options nl.file.counts.n_con nl.file.counts.n_var line c) judged
+
+    as_held : (value : Option ℚ) → shown_of nl c ≡ holds value → (judged : Result (Bool × Vec ℕ) (Stop Refusal)) → TextWith (outcome_text c.claim (holds value)) judged → Comes (CertifiesAs nl c) judged
+    as_held value same (Ok t) h = as_shown (holds value) same (Done t.0 t.1.items) h
+    as_held value same (Err (Fault why)) h = as_shown (holds value) same (Refused why.line) h
+    as_held value same (Err Memory) h = tt
+
+    -- the message is the line of the verdict
+    pub text_comes : is_held o ≡ true → (line : List ℕ) → line ≡ outcome_text c.claim o → (judged : Result (Bool × Vec ℕ) (Stop Refusal)) → TextWith line judged → Comes (CertifiesAs nl c) judged
+    text_comes e line same judged h = by o (sym (is ∙ shown_is)) e (subst (λ (bytes : List ℕ). TextWith bytes judged) same h)
       where
-        by : (shown : ClaimOutcome) → shown_of nl c ≡ shown → (value : Option ℚ) × (shown_of nl c ≡ holds value) × (line ≡ outcome_text c.claim (holds value) ++ codes "\n")
-        by (fails cause) is = (let yes : true ≡ is_held (fails cause) = sym e ∙ told_so.0 ∙ ap is_held is in absurd cc)
-        by (holds value) is = (value, is, told_so.1 ∙ ap (outcome_line c.claim) is)
-
-    pub text_comes : (e : held ≡ true) (text : List ℕ) → text ≡ outcome_text c.claim (holds (held_value e).0) → (judged : Result (Bool × Vec ℕ) (Stop Refusal)) → Comes (TextComes nl.file.options nl.file.counts.n_con nl.file.counts.n_var text c) judged → Comes (CertifiesAs nl c) judged
-    text_comes e text same (Ok t) h = as_shown _ (held_value e).1 (Done t.0 t.1.items) (subst (λ (line : List ℕ). TextComes nl.file.options nl.file.counts.n_con nl.file.counts.n_var line c (Done t.0 t.1.items)) same h)
-    text_comes e text same (Err (Fault why)) h = as_shown _ (held_value e).1 (Refused why.line) (subst (λ (line : List ℕ). TextComes nl.file.options nl.file.counts.n_con nl.file.counts.n_var line c (Refused why.line)) same h)
-    text_comes e text same (Err Memory) h = tt
+        by : (shown : ClaimOutcome) → shown_of nl c ≡ shown → is_held shown ≡ true → TextWith (outcome_text c.claim shown) judged → Comes (CertifiesAs nl c) judged
+        by (fails cause) same e h = absurd cc
+        by (holds value) same e h = as_held value same judged h
 
 -- ---- what the code asks for
 
@@ -323,3 +347,17 @@ pub cut_line : (line text : List ℕ) (n : ℕ) → line ≡ text ++ 10 ∷ [] �
 cut_line line text n e len =
     ap₂ (λ k bytes. take (k - 1) bytes) (len ∙ ap length e) e
     ∙ take_at text (10 ∷ []) (length (text ++ 10 ∷ []) - 1) (omega (arith, length-append text (10 ∷ [])))
+
+-- the line of a claim that holds is a line of a message
+module _ (nl : NlValue) (c : CertificateValue) (l : LinearValue) (folds : HasFolded nl (claim_objective c.claim) l) (file : IsFile nl.file) (given : IsCertificateIn nl.file c) where
+  pub message_so : (o : Judgement) → outcome_of o ≡ claim_shown (linear_value l) c → is_held (outcome_of o) ≡ true → IsMessageLine (outcome_text c.claim (outcome_of o))
+  message_so (Fails cause) is e = absurd cc
+  message_so (Holds v) is e =
+      let k = claim_objective c.claim in
+      let f = linear_of nl.file k in
+      let p = problem_of nl.file k in
+      let certified = certificate_of nl.file k c given in
+      let means = file_meant nl.file k file folds.fine in
+      let so : IsToldTrue p (spread p.variables (given_in c).point) (told_claim c.claim (value_found v)) = subst (Says f c certified p means p.variables p.constraints (given_in c)) (sym (is ∙ shown_is nl c l folds)) (says_so f c certified p means) in
+      subst IsMessageLine (sym (ap (λ (t : Option Told). option_map_or told_text t [] ++ objective_text k) so.is_told))
+      (message_line so.told k (told_fits c.claim v so.told (bound_fits f c certified) so.is_told) (objective_small nl.file k file folds.fine))

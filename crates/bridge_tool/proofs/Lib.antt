@@ -3,6 +3,7 @@ pub mod DrawLemmas
 pub mod NumberLemmas
 pub mod RowLemmas
 pub mod Drafting
+pub mod Duals
 pub mod Certifying
 pub mod Exporting
 pub mod FileLimits

@@ -1,5 +1,5 @@
 -- The line of a claim that holds is one line of a message, where the numbers that are told fit.
-use Rattle.std.proofs.Common.{◌≡◌, ℕ, suc, ◌<◌, ◌^◌, ℤ, pos, negsuc, Bool, true, false, List, [], ◌∷◌, ◌++◌, length, if◌then◌else◌, refl, subst, arith, append_assoc, codes, nat_lt, nat_eq}
+use Rattle.std.proofs.Common.{◌≡◌, Option, Some, None, ℕ, suc, ◌<◌, ◌^◌, ℤ, pos, negsuc, Bool, true, false, List, [], ◌∷◌, ◌++◌, length, if◌then◌else◌, refl, subst, arith, append_assoc, codes, nat_lt, nat_eq}
 use Rattle.std.specs.Prelude.{unsigned_abs}
 use Rattle.std.specs.List.{list_all}
 use Rattle.std.specs.Fmt.{decimal, signed_decimal}
@@ -12,12 +12,21 @@ use Rattle.exact_numbers.specs.Numbers.{IsUnmarked}
 use Rattle.exact_numbers.specs.Fits.{fits, is_small}
 use Rattle.exact_numbers.specs.Rational.{ℚ}
 use Rattle.text_base.proofs.LineLemmas.{EndsFree, last-free, trimmed-free}
-use Rattle.text_base.specs.Cut.{HasNoEnd, IsOneLine}
+use Rattle.text_base.specs.Cut.{HasNoEnd}
+use Rattle.exact_numbers.specs.declared.frac.Frac.{Frac}
+use Rattle.exact_numbers.specs.Values.{frac_value}
+use Rattle.exact_numbers.proofs.Bridge.{frac_fits_lem}
+use Rattle.std.proofs.lemmas.Option.{same_Some}
+use Rattle.linear_program.specs.Numbers.{number_value}
+use Rattle.exact_checks.specs.Terms.{value_found}
+use Rattle.certificates.specs.Told.{told_claim}
+use Rattle.certificates.specs.declared.certificate.Claim.{Claim}
+use Rattle.certificates.specs.declared.certificate.Claim.TheVariants.{Optimal, Within, Bound, Feasible, Infeasible, Unbounded}
 use Rattle.certificates.specs.ToldMeaning.{Told, optimal, within, bound, feasible, infeasible, unbounded}
 use Rattle.sol_files.specs.Built.{IsMessageLine}
 use Rattle.sol_files.specs.Parts.{is_options}
 use Rattle.command_core.specs.Told.{number_text}
-use Rattle.command_parts.specs.CertificateTold.{objective_text, told_text}
+use Rattle.command_parts.specs.CertificateTold.{HasFittingBound, objective_text, told_text}
 
 abbrev pub IsPrinted : List ℕ → Type 0
 IsPrinted [] = Unit {0}
@@ -113,3 +122,18 @@ message_line t k fine small =
       one = record { no_end = no_end (told_text t ++ objective_text k) all; no_cr = trimmed-free (told_text t ++ objective_text k) (free [] (told_text t ++ objective_text k) some all) };
       other = no_options t (objective_text k);
     }
+
+-- what is told of a claim whose bound fits fits
+pub told_fits : (claim : Claim) (v : Option Frac) (t : Told) → HasFittingBound claim → told_claim claim (value_found v) ≡ Some t → IsFitting t
+told_fits (Optimal k) None t fine e = absurd cc
+told_fits (Optimal k) (Some v) t fine e = subst IsFitting (same_Some (optimal (frac_value v)) t e) (frac_fits_lem v)
+told_fits (Within k b) None t fine e = absurd cc
+told_fits (Within k b) (Some v) t fine e = subst IsFitting (same_Some (within (number_value b) (frac_value v)) t e) (fine, frac_fits_lem v)
+told_fits (Bound k b) None t fine e = absurd cc
+told_fits (Bound k b) (Some v) t fine e = subst IsFitting (same_Some (bound (frac_value v)) t e) (frac_fits_lem v)
+told_fits (Feasible k) None t fine e = absurd cc
+told_fits (Feasible k) (Some v) t fine e = subst IsFitting (same_Some (feasible (frac_value v)) t e) (frac_fits_lem v)
+told_fits Infeasible None t fine e = subst IsFitting (same_Some infeasible t e) tt
+told_fits Infeasible (Some v) t fine e = absurd cc
+told_fits (Unbounded k) None t fine e = subst IsFitting (same_Some unbounded t e) tt
+told_fits (Unbounded k) (Some v) t fine e = absurd cc

@@ -1,5 +1,5 @@
 -- The command certified: the .sol text of a claim on an .nl text, where its certificate holds.
-use Rattle.std.specs.Prelude.{◌≡◌, ℕ, ◌+◌, ◌≤◌, ℤ, pos, false, true, List, [], ◌∷◌, ◌++◌, codes}
+use Rattle.std.specs.Prelude.{◌≡◌, ◌≢◌, IsSomeAnd, ℕ, ◌+◌, ◌≤◌, ℤ, pos, false, true, List, [], ◌∷◌, ◌++◌, codes}
 use Rattle.std.specs.declared.option.Option.{Option}
 use Rattle.std.specs.declared.option.Option.TheVariants.{None, Some}
 use Rattle.exact_numbers.specs.Rational.{ℚ}
@@ -14,7 +14,9 @@ use Rattle.nl_segments.specs.Reader.{IsNl}
 use Rattle.certificates.specs.Certificates.{CertificateValue, certificate_over, claim_objective}
 use Rattle.certificates.specs.Reading.{given_in}
 use Rattle.certificate_text.specs.Reader.{IsCertificateText}
-use Rattle.certified_solution.specs.Solution.{IsNotDecimal, IsSolutionOf, values_of}
+use Rattle.exact_checks.specs.Terms.{values_of}
+use Rattle.certified_solution.specs.Lagrangian.{ShowBound}
+use Rattle.certified_solution.specs.Solution.{IsNotDecimal, IsSolutionOf}
 use Rattle.problems.specs.NlSetting.{setting_of}
 use Rattle.sol_files.specs.Sol.{Sol}
 use Rattle.sol_files.specs.Written.{sol_text}
@@ -76,7 +78,16 @@ told_code (feasible v) = 100
 told_code infeasible = 200
 told_code unbounded = 300
 
--- the values are a feasible point, or there are none
+-- the bound of the objective that is told, where one is
+abbrev pub told_bound : Told → Option ℚ
+told_bound (optimal v) = Some v
+told_bound (within b v) = Some b
+told_bound (bound v) = Some v
+told_bound (feasible v) = None
+told_bound infeasible = None
+told_bound unbounded = None
+
+-- the values are a feasible point, whole variables whole; or there are none
 abbrev pub IsPointTold : Problem → List ℚ → Told → Type 0
 IsPointTold p xs (optimal v) = IsFeasible p xs
 IsPointTold p xs (within b v) = IsFeasible p xs
@@ -85,14 +96,17 @@ IsPointTold p xs (feasible v) = IsFeasible p xs
 IsPointTold p xs infeasible = xs ≡ []
 IsPointTold p xs unbounded = IsFeasible p xs
 
--- what the .sol value says by itself of the problem with objective k: its message tells what is true
--- for its values, and so does its code
+-- What the .sol value says by itself of the problem with objective k: its message tells what is true
+-- with its values as the point; its objno line has the objective and the code of what is told; and
+-- where duals are given, a bound is told, and they show it.
 pub record IsSolTrue (p : Problem) (k : ℕ) (s : Sol) : Type 0 where
   pub told : Told
   pub message : s.message ≡ (told_text told ++ objective_text k) ∷ []
-  pub objno : s.objno ≡ Some (pos k, pos (told_code told))
-  pub point : IsPointTold p (values_of s.primals) told
   pub true_of : IsTrueOf p (values_of s.primals) told
+  pub point : IsPointTold p (values_of s.primals) told
+  pub objno : s.objno ≡ Some (pos k, pos (told_code told))
+  pub duals : values_of s.duals ≢ []
+      → IsSomeAnd (told_bound told) (ShowBound p (values_of s.duals))
 
 -- What a yes says: which problem the text states, and that the bytes are the text of a .sol value
 -- that is true of it.

@@ -1,49 +1,61 @@
 // The command certified: from an .nl text and a certificate to the .sol text of its claim, to
 // nothing where the claim does not hold, or to a refusal.
-ghost use Rattle.std.specs.Prelude.{◌≡◌, ◌+◌, ◌<◌, ◌≤◌, ◌^◌};
+ghost use Rattle.std.specs.Prelude.{◌≡◌, ◌+◌, ◌<◌, ◌≤◌, ◌^◌, IfOk};
 ghost use Rattle.nl_model.specs.Rules.{IsFile};
 ghost use Rattle.nl_segments.specs.Reader.{HasLines, value_of};
 ghost use Rattle.certificates.specs.Certificates.{claim_objective};
 ghost use Rattle.problems.specs.Files.{IsCertificateIn};
+ghost use Rattle.certificate_judge.specs.Outcomes.{outcome_of};
 ghost use Rattle.command_core.specs.InsideAnswer.{IsCounted};
 ghost use Rattle.command_core.specs.SeveralFiles.{Comes};
+ghost use Rattle.command_parts.specs.CertificateTold.{HasFittingBound, outcome_text};
 ghost use Rattle.command_parts.specs.Stages.{fold_steps};
 ghost use Rattle.bridge_tool.specs.Certified.{CertifiesAs, TextComes, certified_promise};
 ghost use Rattle.certified_solution.specs.Solution.{IsCertificateBy};
 ghost use Rattle.sol_files.specs.Built.{IsMessageLine};
 
-use crate::verify::verdict_on;
-use certificates::Certificate;
+use crate::verify::outcome_on;
+use certificate_judge::Outcome;
+use certificates::{Certificate, Claim};
 use certified_solution::certified_solution;
 use command_core::{Answer, Refusal, end, refusal_of};
-use command_parts::{claim_objective, fold_read, open_certificate, open_nl};
-use text_base::Desk;
+use command_parts::{claim_objective, fold_read, is_held, open_certificate, open_nl, outcome_line};
 use dual_return::options_of;
 use nl_model::{Counts, Options};
 use nl_segments::NlRead;
 use sol_files::write_sol;
-use std::alloc::Global;
-use text_base::{Ledger, Steps, Stop};
+use std::alloc::{AllocError, Global};
+use text_base::{Desk, Ledger, Steps, Stop};
+
+// The line of a verdict on a certificate for this claim, without its end.
+fn message_of(alloc: Global, claim: Claim, outcome: Outcome) -> Result<Vec<u8>, AllocError>
+    requires { HasFittingBound claim }
+    ensures { IfOk result (λ line. line.items ≡ outcome_text claim (outcome_of outcome)) }
+{
+    let mut line = outcome_line(alloc, claim, outcome)?;
+    line.truncate(line.len() - 1);
+    Ok(line)
+}
 
 // The .sol text of a claim that holds, with this line as its message, or why it is refused.
 fn sol_text_of(
     alloc: Global,
     counts: Counts,
     options: Options,
-    text: &[u8],
+    line: &[u8],
     certificate: &Certificate,
 ) -> Result<(bool, Vec<u8>), Stop<Refusal>>
     requires certificate { IsCertificateBy counts.n_con counts.n_var certificate.now }
-    requires line { IsMessageLine text.now }
+    requires line { IsMessageLine line.now }
     requires objective { claim_objective certificate.now.claim < 2 ^ 31 }
-    ensures { Comes (TextComes options counts.n_con counts.n_var text.now certificate.now) result }
+    ensures { Comes (TextComes options counts.n_con counts.n_var line.now certificate.now) result }
 {
     match certified_solution(
         alloc,
         options,
         counts.n_con,
         counts.n_var,
-        text,
+        line,
         certificate,
     )? {
         Some(sol) => {
@@ -75,12 +87,12 @@ fn to_output<L: Ledger>(
     let header = read.file.header();
     let counts = *header.counts();
     let linear = fold_read(alloc, read, objective, steps)?;
-    let (holds, line) = verdict_on(alloc, linear, certificate)?;
-    if !holds {
+    let outcome = outcome_on(alloc, linear, certificate)?;
+    if !is_held(outcome) {
         return Ok((false, Vec::new(alloc)));
     }
-    let text = &line[..line.len() - 1];
-    sol_text_of(alloc, counts, options, text, certificate)
+    let message = message_of(alloc, certificate.claim(), outcome)?;
+    sol_text_of(alloc, counts, options, &message, certificate)
 }
 
 /// Certifies an answer: reads both texts, judges the certificate, and writes the .sol text of its

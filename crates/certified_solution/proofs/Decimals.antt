@@ -1,19 +1,19 @@
 -- Decimals of numbers, found one by one.
-use Rattle.std.proofs.Common.{◌≡◌, ◌⊎◌, inl, inr, ◌∙◌, ℕ, zero, suc, ◌+◌, ◌<◌, ◌≤◌, Bool, true, false, List, [], ◌∷◌, ◌++◌, length, map, drop, Option, Some, None, refl, sym, ap, ap₂, subst, arith}
+use Rattle.std.proofs.Common.{◌≡◌, ◌⊎◌, inl, inr, ◌∙◌, ℕ, ◌+◌, ◌<◌, ◌≤◌, Bool, true, false, List, [], ◌∷◌, ◌++◌, length, drop, Option, Some, None, refl, sym, ap, ap₂}
 use Rattle.std.specs.Prelude.{◌&&◌, get_or, MatchOption}
-use Rattle.std.specs.List.{list_all}
 use Rattle.std.proofs.lemmas.Bool.{both_ways, and_parts, false_from_ne_true}
 use Rattle.std.proofs.lemmas.List.{append-nil, append_assoc, drop_all, map-append}
 use Rattle.exact_numbers.specs.Rational.{ℚ}
 use Rattle.exact_numbers.specs.declared.dec.Dec.{Dec}
 use Rattle.exact_numbers.specs.declared.frac.Frac.{Frac}
 use Rattle.exact_numbers.specs.Numbers.{dec_from}
-use Rattle.exact_numbers.specs.Values.{dec_value, fits_dec, frac_value, FitsDec, IsDecOf}
+use Rattle.exact_numbers.specs.Values.{dec_value, fits_dec, frac_value, FitsDec}
 use Rattle.exact_numbers.proofs.NumberLemmas.{dec_from-some, dec_from-fits}
-use Rattle.exact_numbers.proofs.Spelling.{fits_dec_in, fits_dec_out}
+use Rattle.exact_numbers.proofs.Spelling.{fits_dec_out}
 use Rattle.linear_program.proofs.ListLemmas.{rest_of}
 use Rattle.certificate_judge.specs.InsidePoints.{fractions_of}
-use Rattle.certified_solution.specs.Solution.{AreDecimalsOf, are_decimal, values_of}
+use Rattle.exact_checks.specs.Terms.{values_of}
+use Rattle.certified_solution.specs.Solution.{AreDecimalsOf, are_decimal}
 
 -- ---- one number
 

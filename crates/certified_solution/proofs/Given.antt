@@ -1,17 +1,17 @@
 -- What is given in a certificate, by its pairs and nodes.
-use Rattle.std.proofs.Common.{◌≡◌, ◌∙◌, ℕ, ◌+◌, ◌≤◌, Bool, true, false, List, [], ◌∷◌, ◌++◌, length, take, drop, Option, Some, None, refl, sym, ap, subst, arith}
+use Rattle.std.proofs.Common.{◌≡◌, ◌≢◌, ◌∙◌, Bool, ℕ, ◌+◌, ◌≤◌, true, false, List, [], ◌++◌, length, take, drop, Option, Some, None, refl, sym, ap, subst, arith}
 use Rattle.std.specs.Prelude.{if◌then◌else◌}
-use Rattle.std.proofs.lemmas.List.{length-append, take_at, drop_at}
+use Rattle.std.proofs.lemmas.List.{length-append, drop_at}
 use Rattle.exact_numbers.specs.Rational.{ℚ}
 use Rattle.linear_program.specs.Numbers.{Pair, spread}
-use Rattle.certificates.specs.Certificates.{AreNumbers, CertificateTree, CertificateValue, Given, IsCertificateOver, IsTreeOver, duals, lemma, nodes_in, nodes_of, pairs_in, pairs_of, plane, split, weights}
+use Rattle.certificates.specs.Certificates.{AreNumbers, CertificateTree, CertificateValue, Given, IsTreeOver, duals, lemma, nodes_in, nodes_of, pairs_in, pairs_of, plane, split, weights}
 use Rattle.certificates.specs.Reading.{given_in}
-use Rattle.certificates.specs.Setting.{Setting, IsWholeFor}
+use Rattle.certificates.specs.Setting.{IsWholeFor}
 use Rattle.certificates.specs.declared.certificate.Claim.{Claim}
 use Rattle.certificates.specs.declared.certificate.Claim.TheVariants.{Optimal, Within, Bound, Feasible, Infeasible, Unbounded}
 use Rattle.certificates.proofs.Reading.{given_back}
 use Rattle.certified_solution.specs.InsideParts.{begins_with_duals, has_point}
-use Rattle.certified_solution.specs.Solution.{AreDecimalsOf, IsCertificateBy, are_decimal, dual_values, leaf_values, point_values, values_of, where_decimal}
+use Rattle.certified_solution.specs.Solution.{AreDecimalsOf, IsCertificateBy, are_decimal, dual_values, leaf_values, point_values, where_decimal}
 
 -- ---- by claim
 
@@ -60,6 +60,19 @@ where_all ys e = ap (λ b. if b then ys else []) e
 
 pub where_none : (ys : List ℚ) → are_decimal ys ≡ false → where_decimal ys ≡ []
 where_none ys e = ap (λ b. if b then ys else []) e
+
+-- duals that are written are those of one leaf
+pub has_leaf : (m : ℕ) (t : Option CertificateTree) → dual_values m t ≢ [] → (ps : List Pair) × (t ≡ Some (duals ps)) × (dual_values m t ≡ spread m ps)
+has_leaf m None some = absurd (some refl)
+has_leaf m (Some (split j t below above)) some = absurd (some refl)
+has_leaf m (Some (plane ps t below above)) some = absurd (some refl)
+has_leaf m (Some (lemma ps t shown rest)) some = absurd (some refl)
+has_leaf m (Some (duals ps)) some = (ps, refl, by (are_decimal (spread m ps)) refl)
+  where
+    by : (b : Bool) → are_decimal (spread m ps) ≡ b → where_decimal (spread m ps) ≡ spread m ps
+    by true e = where_all (spread m ps) e
+    by false e = absurd (some (where_none (spread m ps) e))
+has_leaf m (Some (weights ps)) some = absurd (some refl)
 
 -- ---- a certificate
 

@@ -1,5 +1,5 @@
 -- The .sol value of a claim: there is one, all or nothing is given in it, and it can be written.
-use Rattle.std.proofs.Common.{◌≡◌, ◌⊎◌, inl, inr, ◌∙◌, ℕ, ◌+◌, ◌<◌, ◌≤◌, ◌^◌, ℤ, pos, Bool, true, false, List, [], ◌∷◌, ◌++◌, length, map, Option, Some, None, refl, sym, ap, subst, arith}
+use Rattle.std.proofs.Common.{◌≡◌, ◌⊎◌, inl, inr, ◌∙◌, ℕ, ◌+◌, ◌<◌, ◌≤◌, ◌^◌, ℤ, pos, Bool, true, false, List, [], ◌∷◌, ◌++◌, length, Option, Some, None, refl, sym, ap, subst, arith}
 use Rattle.std.specs.Prelude.{if◌then◌else◌}
 use Rattle.std.specs.List.{AllByRecursion, list_all}
 use Rattle.std.proofs.lemmas.Bool.{and_parts, both_ways, lt-ltb}
@@ -17,7 +17,8 @@ use Rattle.certificates.specs.declared.certificate.Claim.TheVariants.{Optimal, W
 use Rattle.sol_files.specs.Built.{AreGiven, IsEmptyOrFull, empty_sol}
 use Rattle.sol_files.specs.Sol.{Sol}
 use Rattle.sol_files.specs.Written.{IsSaidLine, KeepsRules}
-use Rattle.certified_solution.specs.Solution.{HasOneSolution, IsNotDecimal, IsSolutionOf, are_decimal, code_of, dual_values, leaf_values, point_values, values_of, where_decimal}
+use Rattle.exact_checks.specs.Terms.{values_of}
+use Rattle.certified_solution.specs.Solution.{HasOneSolution, IsNotDecimal, IsSolutionOf, are_decimal, code_of, dual_values, leaf_values, point_values, where_decimal}
 use Rattle.certified_solution.proofs.Decimals.{decimals_for, same_decimals, values_decimal}
 
 -- ---- how many values

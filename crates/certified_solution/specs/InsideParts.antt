@@ -1,5 +1,5 @@
 -- The tests of the code.
-use Rattle.std.specs.Prelude.{ℕ, Bool, true, false, List, [], ◌∷◌}
+use Rattle.std.specs.Prelude.{Bool, true, false, List, [], ◌∷◌}
 use Rattle.certificates.specs.declared.certificate.CertificateNode.{CertificateNode}
 use Rattle.certificates.specs.declared.certificate.CertificateNode.TheVariants.{Split, Plane, Lemma, Duals, Weights}
 use Rattle.certificates.specs.declared.certificate.Claim.{Claim}

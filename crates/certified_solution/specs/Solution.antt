@@ -1,10 +1,11 @@
 -- The .sol value of a claim whose certificate holds: the values are those that the certificate
 -- gives (codes: own profile, of AMPL's ranges).
-use Rattle.std.specs.Prelude.{◌≡◌, ◌⊎◌, ℕ, length, ℤ, pos, Bool, true, false, List, [], ◌∷◌, map, if◌then◌else◌, MatchOption, Option, Some, None}
+use Rattle.std.specs.Prelude.{◌≡◌, ◌⊎◌, ℕ, length, ℤ, pos, Bool, true, false, List, [], ◌∷◌, if◌then◌else◌, MatchOption, Option, Some, None}
 use Rattle.std.specs.List.{list_all}
 use Rattle.exact_numbers.specs.Rational.{ℚ}
 use Rattle.exact_numbers.specs.declared.dec.Dec.{Dec}
-use Rattle.exact_numbers.specs.Values.{dec_value, fits_dec}
+use Rattle.exact_numbers.specs.Values.{fits_dec}
+use Rattle.exact_checks.specs.Terms.{values_of}
 use Rattle.linear_program.specs.Numbers.{spread}
 use Rattle.certificates.specs.Certificates.{CertificateTree, CertificateValue, Given, claim_objective, split, plane, lemma, duals, weights}
 use Rattle.certificates.specs.Setting.{Setting, IsCertificateFor}
@@ -13,10 +14,6 @@ use Rattle.certificates.specs.declared.certificate.Claim.TheVariants.{Optimal, W
 use Rattle.sol_files.specs.Sol.{Sol}
 
 -- ---- decimals
-
--- the numbers that decimals are
-abbrev pub values_of : List Dec → List ℚ
-values_of ds = map dec_value ds
 
 -- each number has a decimal
 abbrev pub are_decimal : List ℚ → Bool

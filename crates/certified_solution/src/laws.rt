@@ -1,16 +1,15 @@
 // Each law is proved by a function with an empty body.
 ghost use Rattle.std.specs.Prelude.{◌≡◌, ◌<◌, ◌≤◌, ◌^◌, List, None, ℕ, ℤ, false, length, true};
 ghost use Rattle.std.specs.List.{list_all};
-ghost use Rattle.exact_numbers.specs.Rational.{ℚ, ◌+ℚ◌};
-ghost use Rattle.exact_numbers.specs.Sums.{sum_below};
-ghost use Rattle.linear_program.specs.Linear.{Linear, objective_value, row_count, value_at};
+ghost use Rattle.exact_numbers.specs.Rational.{ℚ};
+ghost use Rattle.linear_program.specs.Linear.{Linear};
 ghost use Rattle.certificates.specs.Branch.{duals, proof_fault};
-ghost use Rattle.certificates.specs.LeafSays.{IsInBox, weighted_lack};
-ghost use Rattle.certificates.specs.Points.{IsAsGood, bounds_of};
+ghost use Rattle.certificates.specs.Means.{problem_in};
 ghost use Rattle.exact_numbers.specs.Numbers.{has_31_bits};
 ghost use Rattle.nl_model.specs.Options.{has_second_three};
 ghost use Rattle.certificates.specs.Certificates.{Given, claim_objective};
 ghost use Rattle.certificates.specs.declared.certificate.Claim.{Claim as ClaimValue};
+ghost use Rattle.certified_solution.specs.Lagrangian.{ShowBound};
 ghost use Rattle.certified_solution.specs.Solution.{HasOneSolution, IsSolutionOf};
 ghost use Rattle.sol_files.specs.Sol.{Sol};
 ghost use Rattle.sol_files.specs.Written.{IsSaidLine, KeepsRules};
@@ -31,12 +30,10 @@ pub fn solutions_are_writable()
         → claim_objective claim < 2 ^ 31 → KeepsRules s }
 {}
 
-/// The duals of a leaf that closes for a value are in AMPL's sign, for both senses: at each point
-/// within the bounds, the objective and what each row lacks to its side, times its dual, come to
-/// nothing better than the value. So they say how the bound changes with the side of a row.
-pub fn duals_are_of_sides()
+/// The duals of a leaf that closes for a value show it as a bound, in AMPL's sign for both senses:
+/// each has the side that it needs, and at each point within the bounds the objective and what each
+/// row lacks to its side, times its dual, come to nothing better than the value.
+pub fn duals_show_bounds()
     ensures { (f : Linear) (v : ℚ) (ys : List ℚ) → proof_fault f v (duals ys) ≡ None
-        → (xs : List ℚ) → IsInBox f (bounds_of f) xs → IsAsGood f.maximise v
-        (objective_value f xs
-        +ℚ sum_below (weighted_lack f.maximise f (value_at ys) xs) (row_count f)) }
+        → ShowBound (problem_in f) ys v }
 {}

@@ -2,7 +2,8 @@
 ghost use Rattle.std.specs.Prelude.{◌≡◌, ◌++◌, ◌<◌, ◌^◌, ℕ, IfOk, OnOk, length, pos, Bool, true, false, Some, None};
 ghost use Rattle.certificates.specs.Certificates.{claim_objective};
 ghost use Rattle.certificates.specs.Reading.{given_in};
-ghost use Rattle.certified_solution.specs.Solution.{AreDecimalsOf, IsCertificateBy, code_of, dual_values, point_values, values_of};
+ghost use Rattle.exact_checks.specs.Terms.{values_of};
+ghost use Rattle.certified_solution.specs.Solution.{AreDecimalsOf, IsCertificateBy, code_of, dual_values, point_values};
 ghost use Rattle.certified_solution.specs.InsideParts.{begins_with_duals, has_point};
 
 use crate::numbers::spread_decimals;

@@ -1,5 +1,3 @@
-use Rattle.std.proofs.Common.{take}
-use Rattle.certificate_judge.specs.InsidePoints.{fractions_of}
 use Rattle.certified_solution.proofs.Decimals.{AreFirst}
 use Rattle.certified_solution.proofs.numbers.decimals_of.Given as goal
 

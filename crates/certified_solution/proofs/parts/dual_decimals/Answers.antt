@@ -1,7 +1,8 @@
 use Rattle.std.proofs.Common.{◌≡◌, ◌∙◌, sym, ap, ap₂, subst, drop}
 use Rattle.linear_program.specs.Numbers.{spread}
 use Rattle.certificates.specs.Certificates.{AreNumbers}
-use Rattle.certified_solution.specs.Solution.{AreDecimalsOf, are_decimal, values_of}
+use Rattle.exact_checks.specs.Terms.{values_of}
+use Rattle.certified_solution.specs.Solution.{AreDecimalsOf, are_decimal}
 use Rattle.certified_solution.proofs.Given.{leaf_of, no_duals, some_duals, wide_duals}
 use Rattle.certified_solution.proofs.parts.dual_decimals.Goals as goal
 
