@@ -47,7 +47,9 @@ def truncation(program: Program) -> Iterator[Judged]:
         for name, whole in files.items():
             for length in range(len(whole)):
                 done = program.run(case.spelled(), {**files, name: whole[:length]})
-                yield is_judged(done, case.words[0]), f"{case.name}, file {name} cut after {length} bytes", done
+                yield is_judged(
+                    done, case.words[0]
+                ), f"{case.name}, file {name} cut after {length} bytes", done
 
 
 def without(program: Program, case: Case, library: str, number: int) -> tuple[bool, Done]:

@@ -96,7 +96,8 @@ def is_imported(program: Program, text: bytes, file: bytes | None) -> bool:
 
 def is_kept(program: Program, case: Case, out: bytes) -> bool:
     """Whether what was written says the same after another way through the program: what was exported is written again unchanged
-    by `mps`, the .sol text of a certificate by `sol`, and the .nl text that `nl` writes by `nl`, which is exported as the same."""
+    by `mps`, the .sol text of a certificate by `sol`, and the .nl text that `nl` writes by `nl`, which is exported as the same.
+    """
     command, *words = case.spelled()
     if command == "certified":
         return case.status != 0 or output(program, out, "sol") == out
