@@ -1,8 +1,19 @@
-use Rattle.std.proofs.Common.{◌∙◌, ap}
+use Rattle.std.proofs.Common.{◌∙◌, false, sym, ap, subst}
+use Rattle.linear_program.specs.Programs.{linear_value}
+use Rattle.certificate_judge.specs.Outcomes.{outcome_of}
 use Rattle.certificates.specs.Certificates.{claim_objective}
+use Rattle.nl_model.specs.declared.header_counts.Counts.{Counts}
 use Rattle.nl_segments.specs.Reader.{value_of}
+use Rattle.problems.specs.NlSetting.{setting_of}
+use Rattle.problems.proofs.NlSettings.{kinds_counted}
+use Rattle.sol_files.specs.Built.{IsMessageLine}
+use Rattle.command_core.specs.Outcome.{Done}
+use Rattle.command_core.specs.SeveralFiles.{Comes}
+use Rattle.command_parts.specs.CertificateTold.{HasFittingBound, outcome_text}
 use Rattle.command_parts.proofs.ExportStages.{folded_at}
-use Rattle.bridge_tool.proofs.Programs.{folded_so}
+use Rattle.bridge_tool.specs.Certified.{CertifiesAs, TextComes}
+use Rattle.bridge_tool.proofs.Certifying.{message_so, not_held, objective_small, text_comes}
+use Rattle.bridge_tool.proofs.Programs.{bound_fits, folded_so}
 use Rattle.bridge_tool.proofs.certified.to_output.Goals as goal
 
 pub outcome_on-requires : goal.outcome_on-requires
@@ -16,7 +27,7 @@ returns-then-not-is_held-clause-comes g c =
     let a = c.args.certificate.now in
     let folds = folded_at _ _ _ _ (c.claim_objective-objective.ensures ∙ ap claim_objective c.claim.ensures) c.in_ok-linear.ensures.folds in
     let none = not_held nl a c.in_ok-linear.linear folds (outcome_of c.in_ok-outcome.outcome) c.in_ok-outcome.ensures (sym c.is_held.ensures ∙ c.if-not-is_held.true) in
-    subst (λ bytes. CertifiesAs nl a (Done false bytes)) (sym c.new.ensures) none
+    subst (λ bytes. CertifiesAs nl a (Done false bytes)) (sym c.new.ensures.items) none
 
 pub message_of-requires : goal.message_of-requires
 message_of-requires g c =
