@@ -1,5 +1,5 @@
 -- Decimals of numbers, found one by one.
-use Rattle.std.proofs.Common.{◌≡◌, ◌⊎◌, inl, inr, ◌∙◌, ℕ, ◌+◌, ◌<◌, ◌≤◌, Bool, true, false, List, [], ◌∷◌, ◌++◌, length, drop, Option, Some, None, refl, sym, ap, ap₂}
+use Rattle.std.proofs.Common.{◌≡◌, ◌⊎◌, inl, inr, ◌∙◌, ℕ, ◌+◌, ◌<◌, ◌≤◌, Bool, true, false, List, [], ◌∷◌, ◌++◌, length, drop, map, Option, Some, None, refl, sym, ap, ap₂}
 use Rattle.std.specs.Prelude.{◌&&◌, get_or, MatchOption}
 use Rattle.std.proofs.lemmas.Bool.{both_ways, and_parts, false_from_ne_true}
 use Rattle.std.proofs.lemmas.List.{append-nil, append_assoc, drop_all, map-append}
@@ -11,7 +11,6 @@ use Rattle.exact_numbers.specs.Values.{dec_value, fits_dec, frac_value, FitsDec}
 use Rattle.exact_numbers.proofs.NumberLemmas.{dec_from-some, dec_from-fits}
 use Rattle.exact_numbers.proofs.Spelling.{fits_dec_out}
 use Rattle.linear_program.proofs.ListLemmas.{rest_of}
-use Rattle.certificate_judge.specs.InsidePoints.{fractions_of}
 use Rattle.exact_checks.specs.Terms.{values_of}
 use Rattle.certified_solution.specs.Solution.{AreDecimalsOf, are_decimal}
 
@@ -74,27 +73,27 @@ not_all (z ∷ zs) x ys e = ap (λ b. fits_dec z && b) (not_all zs x ys e) ∙ a
 -- ---- the loop: those that were found stand for the front
 
 pub record AreFirst (numbers : List Frac) (found : List Dec) (k : ℕ) : Type 0 where
-  pub values : values_of found ++ fractions_of (drop k numbers) ≡ fractions_of numbers
+  pub values : values_of found ++ map frac_value (drop k numbers) ≡ map frac_value numbers
 
 pub none_first : (numbers : List Frac) → AreFirst numbers [] 0
 none_first numbers = record { values = refl }
 
 module _ (numbers : List Frac) (found : List Dec) (k : ℕ) (x : Frac) (a : AreFirst numbers found k) (h : k < length numbers) (is : x ≡ get_or numbers k x) where
-  next_is : values_of found ++ (frac_value x ∷ fractions_of (drop (k + 1) numbers)) ≡ fractions_of numbers
-  next_is = ap (λ ys. values_of found ++ fractions_of ys) (sym (rest_of numbers k x h is)) ∙ a.values
+  next_is : values_of found ++ (frac_value x ∷ map frac_value (drop (k + 1) numbers)) ≡ map frac_value numbers
+  next_is = ap (λ ys. values_of found ++ map frac_value ys) (sym (rest_of numbers k x h is)) ∙ a.values
 
   pub one_more : (d : Dec) → dec_value d ≡ frac_value x → AreFirst numbers (found ++ d ∷ []) (k + 1)
   one_more d e = record {
-    values = ap (λ ys. ys ++ fractions_of (drop (k + 1) numbers)) (map-append dec_value found (d ∷ []))
-        ∙ append_assoc (values_of found) (dec_value d ∷ []) (fractions_of (drop (k + 1) numbers))
-        ∙ ap (λ y. values_of found ++ (y ∷ fractions_of (drop (k + 1) numbers))) e
+    values = ap (λ ys. ys ++ map frac_value (drop (k + 1) numbers)) (map-append dec_value found (d ∷ []))
+        ∙ append_assoc (values_of found) (dec_value d ∷ []) (map frac_value (drop (k + 1) numbers))
+        ∙ ap (λ y. values_of found ++ (y ∷ map frac_value (drop (k + 1) numbers))) e
         ∙ next_is;
   }
 
-  pub one_without : (FitsDec (frac_value x) → ⊥) → are_decimal (fractions_of numbers) ≡ false
-  one_without none = ap are_decimal (sym next_is) ∙ not_all (values_of found) (frac_value x) (fractions_of (drop (k + 1) numbers)) (false_from_ne_true (fits_dec (frac_value x)) (λ t. none (fits_dec_out (frac_value x) t)))
+  pub one_without : (FitsDec (frac_value x) → ⊥) → are_decimal (map frac_value numbers) ≡ false
+  one_without none = ap are_decimal (sym next_is) ∙ not_all (values_of found) (frac_value x) (map frac_value (drop (k + 1) numbers)) (false_from_ne_true (fits_dec (frac_value x)) (λ t. none (fits_dec_out (frac_value x) t)))
 
-pub all_found : (numbers : List Frac) (found : List Dec) (k : ℕ) → AreFirst numbers found k → length numbers ≤ k → AreDecimalsOf (Some found) (fractions_of numbers)
+pub all_found : (numbers : List Frac) (found : List Dec) (k : ℕ) → AreFirst numbers found k → length numbers ≤ k → AreDecimalsOf (Some found) (map frac_value numbers)
 all_found numbers found k a h =
-    let same : values_of found ≡ fractions_of numbers = sym (append-nil (values_of found)) ∙ ap (λ ys. values_of found ++ fractions_of ys) (sym (drop_all k numbers h)) ∙ a.values in
+    let same : values_of found ≡ map frac_value numbers = sym (append-nil (values_of found)) ∙ ap (λ ys. values_of found ++ map frac_value ys) (sym (drop_all k numbers h)) ∙ a.values in
     (ap are_decimal (sym same) ∙ values_decimal found, same)

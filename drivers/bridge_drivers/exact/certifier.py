@@ -34,6 +34,13 @@ from .task import CertificationTask, SearchOptions
 from .work_limit import limit_work
 from .worker_pools import WorkerPool
 
+DENIALS_OF_A_POINT = (AnswerClaim.INFEASIBLE,)
+DENIALS_OF_AN_OPTIMUM = (
+    AnswerClaim.INFEASIBLE,
+    AnswerClaim.UNBOUNDED,
+    AnswerClaim.INFEASIBLE_OR_UNBOUNDED,
+)
+
 
 def certify(
     program: IntegerProgram,
@@ -104,7 +111,23 @@ class Certifier:
 
         Where the time is over, what is known by then is claimed instead, with `may_be_unbounded`.
         Where CLP is not installed or a search ended, that is the reason why nothing is proved.
+
+        A claim without a point is contradicted by a known point or optimum, though it is too wide
+        for a certificate.
         """
+        found = self._certified(claim)
+        if found.claim not in ("", "bound"):
+            return found
+        knows_optimum = self.store.is_optimum_known
+        is_known = claim in DENIALS_OF_A_POINT and self._has_point()
+        is_contradicted = is_known or claim in DENIALS_OF_AN_OPTIMUM and knows_optimum
+        return found._replace(
+            contradicts_answer=found.contradicts_answer or is_contradicted,
+            is_optimum_known=knows_optimum,
+        )
+
+    def _certified(self, claim: AnswerClaim) -> Evidence:
+        """As `certify`, without what is known beside the evidence."""
         try:
             limit_all_work(Deadline(self.task.deadline.left_to_find()))
             return self._tried(claim)
@@ -141,7 +164,9 @@ class Certifier:
         """
         tried = [self._without_answer()]
         if not self.task.is_linear and not self.task.options.is_relaxation:
-            refutations = self.refuter.rounding_refutations()
+            refutations = itertools.chain(
+                self.refuter.rounding_refutations(), self.refuter.by_lattice()
+            )
             proves = self.task.options.proves
             tried = [refutations, self.refute(), *tried] if proves else [refutations, *tried]
         return first_proved(itertools.chain(*tried))

@@ -139,8 +139,8 @@ class Clp:
     """A relaxation whose bounds change. What is asked of it is of the last `solve`.
 
     CLP's tolerances are of fixed size and hide what small numbers say: so columns with small bounds
-    are multiplied by a power of two, and so are small costs. CLP scales rows itself. What methods
-    take and answer is in the program's own units.
+    are multiplied by a power of two, and so are small costs, and columns that the caller names.
+    CLP scales rows itself. What methods take and answer is in the program's own units.
 
     Attributes:
         deadline_of_all: With which each solve of any relaxation ends at last.
@@ -170,8 +170,15 @@ class Clp:
         """From now on each solve of any relaxation of this process stops where it is over."""
         cls.deadline_of_all = deadline
 
-    def __init__(self, program: DoubleProgram) -> None:
-        """Gives the program to CLP; nothing is solved yet, and the basis is CLP's first one."""
+    def __init__(
+        self, program: DoubleProgram, enlargements: Optional[Sequence[float]] = None
+    ) -> None:
+        """Gives the program to CLP; nothing is solved yet, and the basis is CLP's first one.
+
+        Args:
+            enlargements: By column, a power of two that it is multiplied by beside its bounds'
+                own; None: 1 for all.
+        """
         found = library()
         if found is None:
             raise ClpNotInstalled()
@@ -180,6 +187,8 @@ class Clp:
         self.n = len(program.costs)
         self.m = len(program.row_lower)
         self.column_factors = [_column_factor(pair) for pair in zip(program.lower, program.upper)]
+        for j, by in enumerate(enlargements or ()):
+            self.column_factors[j] *= by
         costs = [c / by for c, by in zip(program.costs, self.column_factors)]
         self.cost_factor = scaling_power(max((abs(c) for c in costs), default=0.0))
         self.lower = _bounds(self._scaled(program.lower), -INFINITE)

@@ -26,7 +26,7 @@ from .search_deadline import SearchDeadline
 from ..system.errors import SearchEnded, SearchPaused
 from .fathoming import Cutoff
 from .node import Branch, OpenNode, ProvedSubtree, join, least_open_bound
-from .search import MOST_NODES, ExactPoint, ImprovedIncumbent
+from .search import MOST_NODES, ExactPoint, ImprovedIncumbent, NodeNotClosed
 from .tree import RemoteSubtree, Tree, node_count, with_remote
 from .worker_pools import PoolFailed, SearchProblem, UnitResult, WorkerPool, WorkUnit
 
@@ -54,6 +54,7 @@ class Subtree:
         faults: Processes that died with it in a row.
         is_dropped: Whether nothing rests on it any more, so that what comes back of it is not
             taken.
+        why_not_closed: Of one that was set aside, why its node does not close; else empty.
     """
 
     place: str
@@ -62,6 +63,7 @@ class Subtree:
     seconds: float = 0.0
     faults: int = 0
     is_dropped: bool = False
+    why_not_closed: str = ""
 
     def dual_bound(self) -> float:
         """No point in it is better than this, minimised, as far as its relaxations say."""
@@ -78,6 +80,8 @@ class ParallelSearch:
             each counts nothing.
         proved: By place, subtrees that are proved; all of the tree is at "".
         waiting: Subtrees that nobody works; the last is worked next.
+        set_aside: Subtrees whose first node was neither closed nor branched on, for the cutoff of
+            now.
         running: Those that the pool works; none between two calls of `resume`.
         reports_progress: Whether the deadline is told of it.
         began: On the wall's clock, in seconds.
@@ -106,6 +110,7 @@ class ParallelSearch:
         self.reports_progress = True
         self.running: Dict[Future[UnitResult], Subtree] = {}
         self.waiting = [Subtree("", [])]
+        self.set_aside: List[Subtree] = []
         self.branches: Dict[str, Branch] = {}
         self.proved: Dict[str, ProvedSubtree] = {}
         self.began = time.monotonic()
@@ -141,8 +146,8 @@ class ParallelSearch:
 
         Raises:
             SearchPaused: The seconds or nodes are over; it can go on.
-            SearchEnded: It cannot: an interrupt, MOST_NODES, a tree that is too deep, a leaf that
-                does not close.
+            NodeNotClosed: Nothing is left but nodes that do not close.
+            SearchEnded: It cannot: an interrupt, MOST_NODES, a tree that is too deep.
         """
         search, is_alone = self.search, not self.pool.workers
         search.until = until
@@ -161,12 +166,23 @@ class ParallelSearch:
             self.pool.failed(fault)
         return self._run_here(search.run)
 
+    def set_cutoff(self, cutoff: Cutoff) -> None:
+        """Goes on for another cutoff: that of a better point, or a less demanding one, for both of
+        which all that is proved holds. Between two calls of `resume`.
+
+        Nodes that did not close are tried again.
+        """
+        self.problem = self.problem._replace(cutoff=cutoff)
+        self.search.set_cutoff(cutoff)
+        vars(self).pop("packed_problem", None)
+        self.waiting, self.set_aside = [*self.set_aside, *self.waiting], []
+
     def subtrees(self) -> List[Subtree]:
-        """All that is not proved, whether it waits or is worked."""
-        return [*self.waiting, *self.running.values()]
+        """All that is not proved, whether it waits, is set aside or is worked."""
+        return [*self.waiting, *self.set_aside, *self.running.values()]
 
     def close_and_bound(self) -> float:
-        """The least dual bound of what waits, minimised, each open node solved once more.
+        """The least dual bound of what is open, minimised, each open node solved once more.
 
         Called between two calls of `resume`, for a bound that is to be proved. The node of `search`
         stands elsewhere then; the subtrees keep their open nodes, so that it can still end at
@@ -178,7 +194,7 @@ class ParallelSearch:
             self.search.node.move_to(self._path(subtree.place), subtree.open_nodes)
             return self.search.close_and_bound()
 
-        return min(map(bound, self.waiting), default=math.inf)
+        return min(map(bound, self.subtrees()), default=math.inf)
 
     def finish_at_cutoff(self, cutoff: Cutoff) -> Optional[Tree]:
         """The whole tree for a cutoff that is not better, where few nodes more are enough.
@@ -190,6 +206,7 @@ class ParallelSearch:
             even than this cutoff.
         """
         try:
+            self.set_cutoff(cutoff)
             found = self._run_here(lambda: self.search.finish_at_cutoff(cutoff))
         except SearchEnded:
             return None
@@ -229,16 +246,25 @@ class ParallelSearch:
 
         Args:
             run: Works the subtree where the node of `search` then stands; what it raises goes on to
-                the caller, and the subtree waits with its open nodes.
+                the caller, and the subtree waits with its open nodes. A node that does not close is
+                set aside.
 
         Returns:
             The whole tree, or the first better point.
+
+        Raises:
+            NodeNotClosed: The last that was set aside, where nothing else is open.
         """
         while "" not in self.proved:
+            self._check_open()
             subtree = self.waiting[-1]
             self.search.node.move_to(self._path(subtree.place), subtree.open_nodes)
             subtree.open_nodes = self.search.node.open_nodes  # which change as it is worked
-            found = run()
+            try:
+                found = run()
+            except NodeNotClosed as fault:
+                self._set_aside(subtree, fault.reason)
+                continue
             if isinstance(found, ImprovedIncumbent):
                 return found
             self.waiting.pop()
@@ -259,12 +285,14 @@ class ParallelSearch:
         Raises:
             SearchPaused: The seconds or nodes are over; it can go on.
             PoolFailed: The pool does not work; this process can go on alone.
+            NodeNotClosed: Nothing is left but nodes that were set aside.
             SearchEnded: It cannot go on.
         """
         improved = None
         try:
             while "" not in self.proved and improved is None:
                 self.search.check_limits()
+                self._check_open()
                 self._submit_units(until)
                 improved = self._collect()
         except SearchPaused:
@@ -309,6 +337,24 @@ class ParallelSearch:
             self.proved[beside] = sibling
         return False
 
+    def _check_open(self) -> None:
+        """Looks whether there is something to be worked.
+
+        Raises:
+            NodeNotClosed: All that is open was set aside.
+        """
+        if not self.waiting and not self.running:
+            raise NodeNotClosed(self.set_aside[-1].why_not_closed)
+
+    def _set_aside(self, subtree: Subtree, reason: str) -> None:
+        """Sets the node aside where the search of a subtree stands, which was waiting; what else is
+        open in it waits as subtrees of their own, the deepest as the next."""
+        self.waiting.remove(subtree)
+        while self._split_subtree(subtree):
+            pass
+        subtree.why_not_closed = reason
+        self.set_aside.append(subtree)
+
     def _close(self, place: str, proved: ProvedSubtree) -> None:
         """Puts a proof into `proved`: of the subtree at this place, which waits no more, joined
         upwards as far as siblings are proved.
@@ -339,9 +385,10 @@ class ParallelSearch:
         self._cancel_dropped()
 
     def _cancel_dropped(self) -> None:
-        """Takes dropped subtrees out of `waiting`, and cancels their units that no process has
+        """Takes dropped subtrees out of `waiting` and `set_aside`, and cancels their units that no process has
         begun. The others are not taken when they end."""
         self.waiting = [subtree for subtree in self.waiting if not subtree.is_dropped]
+        self.set_aside = [subtree for subtree in self.set_aside if not subtree.is_dropped]
         for future, subtree in self.running.items():
             if subtree.is_dropped:
                 future.cancel()
@@ -443,6 +490,8 @@ class ParallelSearch:
         if result.proved is not None:
             self.waiting.remove(subtree)
             self._close(subtree.place, _here(result.proved, kept))
+        elif result.why_not_closed:
+            self._set_aside(subtree, result.why_not_closed)
         return None
 
     def _withdraw(self) -> None:

@@ -15,31 +15,33 @@ processor's.
 from __future__ import annotations
 
 import math
-from dataclasses import dataclass
 from fractions import Fraction
-from typing import Dict, FrozenSet, Iterator, List, Mapping, NamedTuple, Optional, Sequence
+from typing import Callable, Dict, List, Optional, Sequence
 
 from .lattice import thin_directions
 from .short_duals import box_bound
 from .search_deadline import SearchDeadline
-from ..model.integer_form import IntegerProgram, Row
+from ..model.integer_form import IntegerProgram, Point, Row
 from ..system.errors import SearchEnded, SearchPaused
-from .cuts import CertificateWithCuts, CutKind, ObjectiveCutoff, ProvedCut, RootCutLoop
+from .cuts import CertificateWithCuts, ObjectiveCutoff, ProvedCut, RootCutLoop
 from .parallel import ParallelSearch
-from .search import MOST_NODES, ExactPoint, ImprovedIncumbent
+from .search import MOST_NODES, ExactPoint, ImprovedIncumbent, NodeNotClosed
+from .strategies import (
+    CLIQUE,
+    KINDS_OF_CUTS,
+    LEAST_CLOSED_SHARE,
+    LEAST_ESTIMATE,
+    MIR,
+    PLAIN,
+    THIN,
+    Preparation,
+    ProvedBound,
+    Strategy,
+    TreeText,
+)
 from .tree import Tree
 from .worker_pools import SearchProblem, WorkerPool
 from .work_limit import check_work
-
-# names of strategies, as they are told
-PLAIN = "plain"
-MIR = "lemma"
-CLIQUE = "clique"
-THIN = "thin"
-KINDS_OF_CUTS: Mapping[str, FrozenSet[CutKind]] = {
-    MIR: frozenset({CutKind.MIR}),
-    CLIQUE: frozenset({CutKind.MIR, CutKind.CLIQUE}),
-}
 
 RESERVE = 0.07  # of the limit of all seconds, for a bound
 FIRST_NODES = 100  # of the plain search, before all else
@@ -52,130 +54,15 @@ LEAST_CUT_SECONDS = 0.05  # from which on cuts are made
 FIRST_CUT_SECONDS = 0.5  # that they may be made at once
 LATTICE_AFTER_SECONDS = 2.0  # before which no lattice is reduced
 MOST_LATTICE_COLUMNS = 45  # integer ones
-LEAST_CLOSED_SHARE = 0.01  # of the gap, for cuts to be worth a strategy, or more time
-MOST_VAIN_ATTEMPTS = 10  # to make cuts that close more
 SHARE_OF_REST = 2.0  # times the gap that cuts leave: the share of the seconds that is left then
 SHORTER_TIMES = 4.0  # the seconds of the first tree, for a shorter one
 SHORTER_SECONDS = 2.0  # more
 SHORT_TREE = 40  # nodes of a tree that needs no shorter one
-LEAST_ESTIMATE = 1e-9  # seconds
+WORSE_SHARE = 0.1  # of a tree's nodes, for a worse value: from then on it is searched once more
 
 BOUND_DIGITS = 3  # of the gap, in which a bound is told
 LOWERINGS = (0.0, 1e-9, 1e-7, 1e-5, 1e-3)  # of a bound in turn, relative, until it is proved
 LATTICE_TOLERANCE = 1e-6  # spacings, by which a bound may be beyond a value of the lattice
-
-
-class TreeText(NamedTuple):
-    """The text of a tree, with the cuts that it uses: what stands in a certificate between its head
-    and its end.
-
-    Attributes:
-        text: Lines, each with its end; ASCII.
-        nodes: In the text, those of the cuts' proofs too.
-        cuts: In the text: only those that the tree needs.
-        strategy: The name of the one that found it.
-    """
-
-    text: str
-    nodes: int
-    cuts: int
-    strategy: str
-
-    @property
-    def size(self) -> int:
-        """In bytes; the shortest tree is the one with the least."""
-        return len(self.text)
-
-    def lines(self) -> Iterator[str]:
-        """The text's lines, without their ends."""
-        start = 0
-        while start < len(self.text):
-            end = self.text.index("\n", start)
-            yield self.text[start:end]
-            start = end + 1
-
-
-class ProvedBound(NamedTuple):
-    """A value that no point is better than, minimised, with the tree that proves it."""
-
-    value: Fraction
-    tree: TreeText
-
-
-@dataclass
-class Strategy:
-    """A search that can go on, with what it took so far.
-
-    Attributes:
-        name: As it is told.
-        cuts: That the search stands below.
-        search: Paused at the end of each turn.
-        spent: Seconds so far.
-        first_estimate: Seconds that it seems to take in all, until some of its tree is proved.
-        correction: A factor above 1 where its estimates were too low.
-        report: How its last turn ended, behind its name: why it was paused or failed, or the size
-            of its tree; empty before.
-        has_ended: Whether it cannot go on: it has its tree, or it failed.
-        tree: The text, where it has one.
-        proved_value: The value, minimised, at which a bound was last tried: leaves that are proved
-            since then hold only up to it, so that no later one is above it. None before.
-    """
-
-    name: str
-    cuts: Sequence[ProvedCut]
-    search: ParallelSearch
-    spent: float = 0.0
-    first_estimate: float = math.inf
-    correction: float = 1.0
-    report: str = ""
-    has_ended: bool = False
-    tree: Optional[TreeText] = None
-    proved_value: Optional[Fraction] = None
-
-    def estimated_seconds(self) -> float:
-        """The seconds that this strategy still needs, for the portfolio's choice of the next turn.
-
-        By the share of the tree that is proved so far; where none is, all of `first_estimate`,
-        which may be infinite. At least LEAST_ESTIMATE, times `correction`, which is more than 1
-        where earlier estimates were too low.
-        """
-        share = self.search.proved_share()
-        rest = self.spent * (1 - share) / share if share else self.first_estimate
-        return max(rest, LEAST_ESTIMATE) * self.correction
-
-
-class Preparation:
-    """What is made for further strategies, bit by bit: cuts, and forms of a reduced lattice.
-
-    Attributes:
-        names: Of strategies that are still to be prepared, in order.
-        cuts: Made so far for the first of them; those that were there before included.
-        closed_share: Of the gap between root bound and value, by these.
-        vain_attempts: How many in a row closed no more.
-    """
-
-    def __init__(self, names: Sequence[str]) -> None:
-        """Nothing is made yet of these strategies, of which the first is prepared first."""
-        self.names = list(names)
-        self.begin_next()
-
-    def begin_next(self) -> None:
-        """Begins with what is now the first of the names: of that nothing is made yet."""
-        self.cuts: List[ProvedCut] = []
-        self.closed_share = 0.0
-        self.vain_attempts = 0
-
-    def add(self, cuts: List[ProvedCut], closed_share: float) -> None:
-        """Takes the cuts that some seconds made; they replace those before. It was in vain where
-        they close not even LEAST_CLOSED_SHARE of the gap more."""
-        is_vain = closed_share < self.closed_share + LEAST_CLOSED_SHARE
-        self.cuts = cuts
-        self.vain_attempts = self.vain_attempts + 1 if is_vain else 0
-        self.closed_share = closed_share
-
-    def is_in_vain(self) -> bool:
-        """Whether more than MOST_VAIN_ATTEMPTS in a row were in vain."""
-        return self.vain_attempts > MOST_VAIN_ATTEMPTS
 
 
 class Portfolio:
@@ -188,6 +75,8 @@ class Portfolio:
         cut_loop: Makes cuts, from `_prepare`.
         strategies: That were begun, the plain one first.
         best: The tree with the shortest text so far.
+        bound: A tree for a value that is a little worse, where nodes close for that alone.
+        on_improved: Is told each better point that a search finds.
         started: The second of the deadline at which it began.
         end: Seconds after `started` at which a shorter tree is not looked for any more.
         has_no_value: Whether there is to be no point: then there is no gap to be seen.
@@ -221,6 +110,8 @@ class Portfolio:
         self.objective = ObjectiveCutoff(program, value, self.lattice)
         self.cut_loop = RootCutLoop(program, self.objective, deadline)
         self.best: Optional[TreeText] = None
+        self.bound: Optional[ProvedBound] = None
+        self.on_improved: Callable[[Point], None] = lambda point: None
         self.strategies: List[Strategy] = []
         self.started = deadline.spent()
         self.end = math.inf  # seconds after `started`
@@ -245,7 +136,7 @@ class Portfolio:
         above: List[Row] = [*self.objective.open_rows(), *(cut.row() for cut in cuts)]
         problem = SearchProblem(self.program, above, forms, self.objective.cutoff)
         search = ParallelSearch(problem, self.exact_point, self.deadline, self.pool)
-        self.strategies.append(Strategy(name, cuts, search))
+        self.strategies.append(Strategy(name, cuts, forms, search, self.objective))
         return self.strategies[-1]
 
     def resume(
@@ -254,23 +145,30 @@ class Portfolio:
         """Goes on with a strategy, for so many seconds or nodes.
 
         It adds to the strategy's `spent`, sets its `report`, and ends it where it failed or has a
-        tree.
+        tree. A point that is better than the value makes its value that of all, which go on where
+        they stand: what is proved holds for it, too. Where nothing is left but nodes that do not
+        close, the strategy goes on for a bound that is a little worse.
 
         Args:
             budget: Seconds; a reserve of the deadline is left however many they are.
             most_nodes: Of its tree in all.
 
         Returns:
-            A point that is better than the value, where one was found.
+            A point that is found where there is to be none; else None.
         """
         if strategy.has_ended:
             return None
-        began = self.deadline.spent()
+        began, until = self.deadline.spent(), self.until(budget)
         try:
-            found = strategy.search.resume(self.until(budget), most_nodes)
+            found = strategy.search.resume(until, most_nodes)
+            while isinstance(found, ImprovedIncumbent) and not self.has_no_value:
+                self._improve(found)
+                found = strategy.search.resume(until, most_nodes)
         except SearchEnded as ended:
             strategy.report = f"{strategy.name}: {ended}"
-            strategy.has_ended = not isinstance(ended, SearchPaused)
+            is_over = not isinstance(ended, SearchPaused)
+            is_lowered = isinstance(ended, NodeNotClosed) and self._lower(strategy)
+            strategy.has_ended = is_over and not is_lowered
             return None
         finally:
             strategy.spent += self.deadline.spent() - began
@@ -279,13 +177,50 @@ class Portfolio:
         self._end_with_tree(strategy, found)
         return None
 
+    def _improve(self, found: ImprovedIncumbent) -> None:
+        """Makes the value of a better point that of all strategies and cuts to come."""
+        self.objective = ObjectiveCutoff(self.program, found.value, self.lattice)
+        self.cut_loop.set_objective(self.objective)
+        for strategy in self.strategies:
+            if not strategy.has_ended:
+                strategy.worse_nodes = strategy.search.search.nodes
+                self._aim(strategy)
+        self.on_improved(found.point)
+
+    def _lower(self, strategy: Strategy) -> bool:
+        """Has a strategy go on for the next worse bound of LOWERINGS; whether there is one.
+
+        There is none where no value is looked for. On a lattice there is room below the next value
+        already.
+        """
+        has_more = strategy.lowerings + 1 < len(LOWERINGS)
+        if self.has_no_value or self.lattice is not None or not has_more:
+            return False
+        strategy.lowerings += 1
+        self._aim(strategy)
+        return True
+
+    def _aim(self, strategy: Strategy) -> None:
+        """Gives a strategy the objective that it is to prove: the portfolio's, less its lowering,
+        in few digits."""
+        value, lowering = self.objective.value, LOWERINGS[strategy.lowerings]
+        strategy.objective = self.objective
+        if lowering and value is not None:
+            size = max(Fraction(1), abs(value))
+            unit = Fraction(10) ** (
+                math.floor(math.log10(size * Fraction(lowering))) - BOUND_DIGITS
+            )
+            lowered = math.ceil((value - size * Fraction(lowering)) / unit) * unit
+            strategy.objective = ObjectiveCutoff(self.program, lowered, self.lattice)
+        strategy.search.set_cutoff(strategy.objective.cutoff)
+
     def race(self) -> Optional[ImprovedIncumbent]:
-        """Runs all strategies in turns, until there is a tree, a better point, or no time.
+        """Runs all strategies in turns, until there is a tree or no time.
 
         The tree is in `best`; without one `reports` say why. The seconds count from its start.
 
         Returns:
-            A point that is better than the value, where one was found.
+            A point that is found where there is to be none; else None.
         """
         self.started = self.deadline.spent()
         improved = self.resume(self.begin(PLAIN), self.seconds_left(), FIRST_NODES)
@@ -296,9 +231,10 @@ class Portfolio:
             if self._is_preparation_due(seconds):
                 self._prepare(seconds)
             elif first is None:
-                return None
+                break
             else:
                 improved = self.take_turn(_next_turn(live, first, seconds), first, seconds)
+        self._search_once_more()
         return improved
 
     def run_plain(self) -> Optional[ImprovedIncumbent]:
@@ -308,7 +244,7 @@ class Portfolio:
         seconds are left to prove it. The tree is in `best`.
 
         Returns:
-            A point that is better than the value, where one was found.
+            A point that is found where there is to be none; else None.
         """
         strategy = self.begin(PLAIN)
         strategy.search.reports_progress = False
@@ -320,7 +256,23 @@ class Portfolio:
             and not strategy.has_ended
         ):
             improved = self.resume(strategy, PLAIN_TURN_SECONDS)
+        self._search_once_more()
         return improved
+
+    def _search_once_more(self) -> None:
+        """Where much of the shortest tree was proved for worse values, its strategy searches once
+        more, in at most as much time; the shorter of both texts stays.
+
+        For a better value a node may close that had to be branched on.
+        """
+        first = next((s for s in self.strategies if s.tree is self.best is not None), None)
+        if first is None or first.worse_nodes < WORSE_SHARE * first.search.search.nodes:
+            return
+        seconds = min(self.seconds_so_far(), self.seconds_left())
+        if seconds > 0 and not self.deadline.is_interrupted:
+            again = self.begin(first.name, first.cuts, first.forms)
+            again.search.reports_progress = first.search.reports_progress
+            self.resume(again, seconds)
 
     def seconds_left(self) -> float:
         """For strategies: what is left of the deadline but for RESERVE of all its seconds, which is
@@ -382,7 +334,8 @@ class Portfolio:
         """The best bound of the paused searches that can be proved, the closest dual bound first;
         None where none can.
 
-        Called where the time is over and there is no tree; it may be called again, for the next.
+        Called where there is no tree; it may be called again, for the next. A tree that a strategy
+        has for a worse bound comes first.
         Each search is ended at its own bound, rounded by `rounded_bound` and lowered by the
         LOWERINGS in turn until each open node is proved by few nodes. The strategy that proves it
         is taken out of `strategies`; a search that was tried cannot go on.
@@ -390,6 +343,9 @@ class Portfolio:
         Raises:
             TimeOver: The time of exact work is over.
         """
+        if self.bound is not None:
+            known, self.bound = self.bound, None
+            return known
         for strategy in sorted(self.strategies, key=lambda s: -s.search.dual_bound):
             bound = strategy.search.close_and_bound()
             for lowering in LOWERINGS if bound > -math.inf else ():
@@ -434,14 +390,18 @@ class Portfolio:
 
     def _end_with_tree(self, strategy: Strategy, tree: Tree) -> None:
         """Ends a strategy that has its tree: sets its `has_ended`, `tree` and `report`, and `best`
-        where no tree before has as short a text."""
+        where no tree before has as short a text; `bound` where it is for a worse value."""
         strategy.has_ended = True
-        text = self._text(strategy, self.objective, tree)
+        text = self._text(strategy, strategy.objective, tree)
         strategy.tree = text
         strategy.report = f"{strategy.name}: {text.nodes} nodes, {text.size} bytes"
         if strategy.cuts:
             strategy.report += f", {text.cuts} of {len(strategy.cuts)} rows"
-        if self.best is None or text.size < self.best.size:
+        value = strategy.objective.value
+        if strategy.lowerings and value is not None:
+            if self.bound is None or value > self.bound.value:
+                self.bound = ProvedBound(value, text)
+        elif self.best is None or text.size < self.best.size:
             self.best = text
 
     def _text(self, strategy: Strategy, objective: ObjectiveCutoff, tree: Tree) -> TreeText:
@@ -456,8 +416,11 @@ class Portfolio:
         """Whether there is anything more to be had, and time.
 
         After a tree it goes on only where a shorter one is wanted and this one has more than
-        SHORT_TREE nodes; then it sets `end` to some times the seconds so far.
+        SHORT_TREE nodes; then it sets `end` to some times the seconds so far. After one for a worse
+        bound it does not: other strategies meet the same nodes.
         """
+        if self.bound is not None:
+            return False
         if self.best is not None:
             if not self.shortens or self.best.nodes <= SHORT_TREE:
                 return False

@@ -53,6 +53,11 @@ class Refuter:
             on_point: What is yielded from a point that a search finds.
         """
         yield from self.rounding_refutations()
+        lattice = None if self.task.is_linear else self.task.lattice_optimum
+        if lattice is not None:
+            yield from self.by_lattice()
+            if lattice.point is not None:
+                yield from on_point(lattice.point)
         try:
             if self.task.is_linear and is_small(self.program):
                 yield from self.by_rational_simplex()
@@ -81,6 +86,13 @@ class Refuter:
             if refutation is not None:
                 lines = refutation_lines(refutation, self.program.m)
                 yield self.store.judged(lines, figures)
+
+    def by_lattice(self) -> Iterator[Evidence]:
+        """Yields what an exact search over the lattice of a small program's equations proves: that
+        it has no point, or its optimum. Nothing is yielded where that search has no tree."""
+        found = self.task.lattice_optimum
+        if found is not None and found.tree is not None:
+            yield self.store.claim_of_tree(found.tree, found.point)
 
     def by_relaxation_at_last(self) -> Iterator[Evidence]:
         """Yields what the relaxation of a small integer program proves in fractions: that it has no

@@ -33,7 +33,7 @@ from .branching import Pseudocosts, PseudocostBranching
 from .clp import library
 from .fathoming import Cutoff
 from .node import Branch, OpenNode, ProvedSubtree
-from .search import BranchAndBound, ExactPoint, ImprovedIncumbent
+from .search import BranchAndBound, ExactPoint, ImprovedIncumbent, NodeNotClosed
 from .work_limit import limit_work
 
 # how processes start: `fork` takes 3 ms for each, `spawn` 100 to 300
@@ -108,6 +108,7 @@ class UnitResult(NamedTuple):
         pseudocosts: Those of the unit, and what it learnt.
         nodes: How many nodes more the subtree has; below 0 where more fell away than came.
         improved: A better point, where one was found; then the unit is as it was before.
+        why_not_closed: Why the node does not close where the search stands; empty where it may.
     """
 
     proved: Optional[ProvedSubtree]
@@ -115,6 +116,7 @@ class UnitResult(NamedTuple):
     pseudocosts: Pseudocosts
     nodes: int
     improved: Optional[ImprovedIncumbent] = None
+    why_not_closed: str = ""
 
 
 # searches of the last problems of this process by their pickled problem, but for those at work
@@ -140,16 +142,21 @@ def work(unit: WorkUnit) -> UnitResult:
     strong_candidates = search.branching.strong_candidates
     search.branching = PseudocostBranching(strong_candidates, unit.pseudocosts)
     search.node.move_to(unit.path, unit.open_nodes)
-    found = None
-    with contextlib.suppress(SearchPaused):
+    found, why_not_closed = None, ""
+    try:
         found = search.run()
+    except NodeNotClosed as fault:
+        why_not_closed = fault.reason
+    except SearchPaused:
+        pass
     pseudocosts = search.branching.pseudocosts
     if isinstance(found, ImprovedIncumbent):
         return UnitResult(None, [], pseudocosts, search.nodes, found)
     while len(_search_cache) >= MOST_CACHED_SEARCHES:
         _search_cache.pop(next(iter(_search_cache)))
     _search_cache[unit.problem] = search
-    return UnitResult(found, search.node.open_nodes, pseudocosts, search.nodes)
+    open_nodes = search.node.open_nodes
+    return UnitResult(found, open_nodes, pseudocosts, search.nodes, None, why_not_closed)
 
 
 class PoolFailed(SearchEnded):

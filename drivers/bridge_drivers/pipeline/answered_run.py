@@ -29,6 +29,7 @@ from ..system.errors import Interrupted
 from .answer import Answer
 from .certification import AnswerCertifier, Returned
 from .monitor import LOGGER
+from .outcome import CODES_OF_WORDS
 from .resolution import Resolution, RunFacts, proved_duals, resolve
 from .settings import Settings
 from .stored_certificate import StoredCertificate
@@ -38,6 +39,8 @@ INTERRUPTED_WORDS = {
     SolverStatus.LIMIT_WITH_POINT: "interrupted with a feasible solution",
     SolverStatus.LIMIT: "interrupted without a feasible solution",
 }
+# of an answer that there is no point, or no best one, where the search knows better
+CONTRADICTED = "its own answer is contradicted by what was found, which no certificate can hold"
 # a search that ends by one of these proves nothing, and the answer stands as it is
 SEARCH_FAULTS = (ArithmeticError, AssertionError, LookupError, TypeError, ValueError)
 # what reading an answer raises where it is missing or in no known form
@@ -197,20 +200,26 @@ class AnsweredRun:
     def _outcome_of(self, answer: Answer) -> Outcome:
         """The outcome of an answer: what is proved decides what is passed on, and is told of it.
 
-        Where the solver's `optimal` is contradicted it is asked once more, and its second answer is
+        Where what the solver says is contradicted it is asked once more, and its second answer is
         judged from the start.
 
         Raises:
             NotReturned: The proved program does not take the answer back.
         """
         verdict = self._verdict(answer)
-        if verdict.contradicts_answer and answer.code == Code.SOLVED:
+        if verdict.contradicts_answer and answer.code in (Code.SOLVED, *CODES_OF_WORDS):
             other = self._retried(words_of_first(answer.found))
             if other is not None:
                 return self._outcome_of(other)
         settings = self.settings.certificate
         gap = self.settings.solver_settings.mip_gap
-        facts = RunFacts(answer.residual, gap, settings.check, settings.strict)
+        facts = RunFacts(
+            answer.residual,
+            gap,
+            is_checked=settings.check,
+            is_proving=settings.prove,
+            is_strict=settings.strict,
+        )
         resolution = resolve(answer, verdict, facts)
         lines = self._notes_on_answer(answer, resolution)
         place = len(lines)  # where a line on the .sol stands
@@ -246,23 +255,31 @@ class AnsweredRun:
             place = self.judge.named_place(residual.name)
             lines.append(f"its point misses {place} by {residual.relative:.2g} of the largest term")
         if resolution.text is not None:
-            lines.insert(0, "its own answer: " + self._head(answer).partition(": ")[2])
+            is_known = resolution.code == Code.LIMIT and answer.code in CODES_OF_WORDS
+            own = self._head(answer).partition(": ")[2]
+            lines.insert(0, CONTRADICTED if is_known else "its own answer: " + own)
         return lines
 
     def _notes_on_search(self, resolution: Resolution) -> list[str]:
-        """Lines on the search: that the user ended it, and the objective of another point."""
+        """Lines on the search: that the user ended it, the objective of another point, and that the
+        solver's word alone makes a proved point optimal."""
         lines = []
         if self.judge.is_interrupted:
             lines.append("interrupted: the search for a certificate was ended")
         if resolution.kind:
             objective = resolution.answer.objective_text()
             lines.append(f"{resolution.kind} point was found; objective {objective}")
+        if resolution.is_word:
+            lines.append(
+                f"that no point is better is the word of {self.solver.title}: "
+                "the point is proved, and no bound at it"
+            )
         return lines
 
     def _first_line(self, resolution: Resolution, passed_on: Answer, said: Statement | None) -> str:
         """The first line of the message.
 
-        It is the head, with what is proved of a gap, and what code 0 is not earned for.
+        It is the head, with what is proved of a gap, and why a code is not earned.
 
         Args:
             resolution: What is decided.
@@ -271,7 +288,7 @@ class AnsweredRun:
         """
         more = proved_gap_words(said) if passed_on.found.is_gap else ""
         if resolution.shortfall:
-            more += f" (code 100: {resolution.shortfall})"
+            more += f" (code {int(resolution.code)}: {resolution.shortfall})"
         return self._head(passed_on, corrected=resolution.text, more=more)
 
     def _head(self, answer: Answer, corrected: str | None = None, more: str = "") -> str:
