@@ -1,12 +1,11 @@
 -- What the duals of a .sol value say: the leaf that gives them closes for the bound that is told, and so they show it.
-use Rattle.std.proofs.Common.{◌≡◌, ◌≢◌, ◌∙◌, ◌<◌, ℕ, Bool, List, [], Option, Some, None, refl, sym, ap, ap₂, subst, arith}
+use Rattle.std.proofs.Common.{◌≡◌, ◌≢◌, ◌∙◌, ◌<◌, ℕ, Bool, List, [], Option, Some, None, refl, sym, ap, ap₂, subst}
 use Rattle.std.specs.Prelude.{IsSomeAnd, IsTrue, option_map}
 use Rattle.std.proofs.lemmas.Option.{same_Some}
 use Rattle.exact_numbers.specs.Rational.{ℚ, ◌+ℚ◌}
 use Rattle.exact_numbers.specs.Sums.{sum_below}
 use Rattle.exact_numbers.proofs.Adding.{sum_below_same}
-use Rattle.linear_program.proofs.Elements.{elements_at}
-use Rattle.linear_program.specs.Linear.{no_row, IsInside, Linear, Row, Variable, form_value, row_at, row_count, value_at, variable_count}
+use Rattle.linear_program.specs.Linear.{IsInside, Linear, Row, Variable, form_value, row_at, row_count, value_at, variable_count}
 use Rattle.linear_program.specs.Numbers.{Pair, number_value, spread}
 use Rattle.certificates.specs.Branch.{BranchTree, LeafFault, duals as duals_leaf, proof_fault}
 use Rattle.certificates.specs.Certificate.{Certificate, Judged, bounded, holds, judged, near, optimal as optimal_by, outcome, refused, unless_leaf, valued, with_leaves, with_proof}
@@ -23,12 +22,12 @@ use Rattle.certified_solution.specs.Solution.{dual_values}
 use Rattle.certified_solution.proofs.Given.{has_leaf}
 use Rattle.certified_solution.proofs.Signs.{duals_show}
 use Rattle.nl_model.specs.File.{File}
-use Rattle.nl_model.specs.LinearFile.{HasLines, body_form, linear_of, linear_row}
+use Rattle.nl_model.specs.LinearFile.{HasLines, body_form, linear_of}
 use Rattle.nl_model.specs.Expressions.{maximises}
 use Rattle.nl_model.specs.Meaning.{side_of}
 use Rattle.nl_model.proofs.Files.{count_lem, same_objective, same_sense, variable_lem}
 use Rattle.problems.specs.FileProblem.{problem_of}
-use Rattle.problems.proofs.Files.{rows_counted}
+use Rattle.problems.proofs.Files.{row_lem, rows_counted}
 use Rattle.bridge_tool.specs.Certified.{told_bound}
 
 -- ---- the tree of a claim that holds closes for the bound that is told
@@ -100,10 +99,6 @@ module _ (f : Linear) (g : Given) (ps : List Pair) (leaf : g.tree ≡ Some (dual
   leaf_closes (Unbounded k) o told asked h e = absurd (no_tree asked)
 
 -- ---- what duals show of the linear program of a file they show of the file
-
-row_lem : (file : File) (k i : ℕ) → i < file.counts.n_con → row_at (linear_of file k) i ≡ linear_row file i
-unfolding linear_of
-row_lem file k i h = elements_at (linear_row file) 0 file.counts.n_con i no_row h ∙ ap (linear_row file) (omega arith)
 
 module _ (file : File) (k : ℕ) (lines : HasLines file k) (ys : List ℚ) (b : ℚ) (h : ShowBound (problem_in (linear_of file k)) ys b) where
   abbrev f : Linear
