@@ -64,7 +64,7 @@ Path = Union[str, "os.PathLike[str]"]
 OnProgress = Callable[[ProgressEvent], None]
 FRONT = "nl-bridge"
 CERTIFY = "bridge-certify"
-CERTIFY_SECONDS = 60.0  # of the solver, and again of the search
+CERTIFY_SECONDS = 120.0  # of a run of `certify` of which nothing else is said
 
 
 def solve(
@@ -85,7 +85,8 @@ def solve(
         solver: The name of the solver: `cbc`, `highs` ..
         prove: A certificate that the answer is optimal is searched for.
         certificate: Where an accepted certificate is kept; None for nowhere.
-        timelim: Seconds of the solver, and again of the search; else the search alone has 60.
+        timelim: Seconds of the whole run, of which `prove` keeps one half for the search. None or
+            0: no limit, but 60 seconds of the search.
         program: The solver's program, where it is not on the PATH.
         on_progress: Is called with what is known while the run goes on, such as incumbents and
             bounds.
@@ -122,8 +123,8 @@ def certify(
         model: A path, the bytes of a file, or a program.
         solver: The name of the solver.
         certificate: Where the certificate is kept; None for nowhere.
-        timelim: Seconds of the solver, and again of the search: 60 where nothing is said; 0 leaves
-            the solver without a limit.
+        timelim: Seconds of the whole run, of which one half is kept for the search: 120 where
+            nothing is said; 0 for no limit, but 60 seconds of the search.
         program: The solver's program, where it is not on the PATH.
         on_progress: As of `solve`.
         options: Further options of the driver, by name.

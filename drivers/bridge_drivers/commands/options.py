@@ -218,7 +218,7 @@ COMMON_OPTIONS: Sequence[Option] = (
         "prove",
         0,
         SWITCH,
-        "1: search a certificate that the answer is optimal (timelim holds for it too; 60 seconds "
+        "1: search a certificate that the answer is optimal (what is left of timelim; 60 seconds "
         "where there is none)",
     ),
     Option("relax", 0, SWITCH, "1: integer variables as continuous ones"),
@@ -255,7 +255,12 @@ COMMON_OPTIONS: Sequence[Option] = (
         "1: what is not proved optimal, infeasible or unbounded is not solved (code 100, exit "
         "status 7); sets prove=1",
     ),
-    Option("timelim", 0.0, AMOUNT, "seconds for the solver; 0: no limit"),
+    Option(
+        "timelim",
+        0.0,
+        AMOUNT,
+        "seconds of the whole run, of which prove=1 keeps one half for the certificate; 0: no limit",
+    ),
     Option(
         "wantsol",
         0,
@@ -284,9 +289,9 @@ CERTIFY_OPTIONS: Sequence[Option] = (
     Option("stats", 0, SWITCH, "1: a line of figures"),
     Option(
         "timelim",
-        60.0,
+        120.0,
         AMOUNT,
-        "seconds for the driver, and again for the certificate; 0: no limit",
+        "seconds of the whole run, of which one half is kept for the certificate; 0: no limit",
     ),
 )
 

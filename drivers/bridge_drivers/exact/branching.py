@@ -41,6 +41,9 @@ class GainSum(NamedTuple):
     times: int
 
 
+NO_GAIN = GainSum(0.0, 0)
+
+
 class Pseudocosts:
     """What branching gained so far.
 
@@ -60,6 +63,23 @@ class Pseudocosts:
         """The same gains; what is learnt by one of both the other does not know."""
         return Pseudocosts((dict(self.gains[DOWN]), dict(self.gains[UP])))
 
+    def less(self, before: Pseudocosts) -> Pseudocosts:
+        """What was learnt since these were a copy of `before`: gains that are not in that."""
+        learnt = Pseudocosts()
+        for gains, known, found in zip(self.gains, before.gains, learnt.gains):
+            for column, (total, times) in gains.items():
+                old = known.get(column, NO_GAIN)
+                if times > old.times:
+                    found[column] = GainSum(total - old.total, times - old.times)
+        return learnt
+
+    def add(self, learnt: Pseudocosts) -> None:
+        """Adds what another search has learnt."""
+        for gains, found in zip(self.gains, learnt.gains):
+            for column, (total, times) in found.items():
+                old = gains.get(column, NO_GAIN)
+                gains[column] = GainSum(old.total + total, old.times + times)
+
     def learn(self, column: int, direction: int, gain: float, distance: float) -> None:
         """Adds what the dual bound gained in a branch, per unit of `distance`.
 
@@ -71,7 +91,7 @@ class Pseudocosts:
             distance: By which the branch moved the column from its value in the relaxation.
         """
         if distance > LEAST_DISTANCE:
-            total, times = self.gains[direction].get(column, (0.0, 0))
+            total, times = self.gains[direction].get(column, NO_GAIN)
             self.gains[direction][column] = GainSum(total + max(0.0, gain) / distance, times + 1)
 
     def mean(self, direction: int) -> float:

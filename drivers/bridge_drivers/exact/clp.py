@@ -25,6 +25,7 @@ ITERATIONS = 100_000  # of one relaxation
 LEAST_SOLVE_SECONDS = 1.0  # that a solve gets, however little time is left
 MOST_SOLVE_SECONDS = 30.0
 FIRST_SLICE = 1.0  # seconds of the processor, which is what CLP's own limit counts
+MOST_SLICE = 4.0  # after which at last an interrupt is seen
 SMALL = 1e-3  # bounds and costs below are scaled up
 LIBRARY_NAMES = ("libClp.so.1", "libClp.so", "libClp.1.dylib", "libClp.dylib")
 
@@ -170,6 +171,12 @@ class Clp:
         """From now on each solve of any relaxation of this process stops where it is over."""
         cls.deadline_of_all = deadline
 
+    @classmethod
+    def shorten(cls, deadline: Deadline) -> None:
+        """Each solve of any relaxation, a running one too, stops when the seconds of this deadline
+        are over, or where it would have stopped, if that is earlier. At an interrupt."""
+        cls.restrict(cls.deadline_of_all.within(deadline.left()))
+
     def __init__(
         self, program: DoubleProgram, enlargements: Optional[Sequence[float]] = None
     ) -> None:
@@ -239,8 +246,9 @@ class Clp:
         """Solves from the basis that it has, by the dual simplex method or the primal one.
 
         CLP's own limit counts seconds of the processor, of which a busy machine gives few: it gets
-        slices, and after each the clock is looked at. A slice is at most twice the one before, and
-        at most what the processor gives in the time that is left, by what it gave in that one.
+        slices, and after each the clock is looked at. A slice is at most twice the one before,
+        MOST_SLICE, and what the processor gives in the time that is left, by what it gave in that
+        one. An interrupt, which shortens `deadline_of_all`, ends the solve behind its slice.
 
         Args:
             most_iterations: Of the method; 0: the values and duals of the basis are wanted.
@@ -260,15 +268,17 @@ class Clp:
         portion = FIRST_SLICE
         end = now + self.seconds_of_solve()
         while True:
-            seconds = max(min(end - now, portion), 0.0) if end < math.inf else -1.0
+            seconds = max(min(end - now, portion), 0.0)
             lib.Clp_setMaximumSeconds(model, seconds)
             (lib.Clp_primal if by_primal else lib.Clp_dual)(model, 0)
             if not self._is_stopped() or lib.Clp_numberIterations(model) >= most_iterations:
                 break
             began, now = now, time.monotonic()
+            end = min(end, now + self.deadline_of_all.left())
             if now >= end:
                 break
-            portion = min(2 * portion, (end - now) * seconds / max(now - began, seconds))
+            by_clock = (end - now) * seconds / max(now - began, seconds)
+            portion = min(2 * portion, MOST_SLICE, by_clock)
         status = lib.Clp_status(model)
         return LpStatus(status) if status in (0, 1, 2) else LpStatus.OTHER
 

@@ -20,7 +20,7 @@ import weakref
 from concurrent.futures import FIRST_COMPLETED, Future, wait
 from dataclasses import dataclass
 from functools import cached_property
-from typing import Callable, Dict, List, Optional, Union
+from typing import Callable, Dict, Iterator, List, Optional, Union
 
 from .search_deadline import SearchDeadline
 from ..system.errors import SearchEnded, SearchPaused
@@ -75,7 +75,7 @@ class ParallelSearch:
 
     Attributes:
         search: What this process works; it also closes what is left for a bound. Its `nodes` count
-            the whole tree so far, with proved subtrees that fell away when others were joined.
+            the whole tree so far, without what fell away.
         branches: By place, the branching nodes between the root and the subtrees; the direction of
             each counts nothing.
         proved: By place, subtrees that are proved; all of the tree is at "".
@@ -369,11 +369,27 @@ class ParallelSearch:
                 if sibling is None:
                     break
                 branch = self.branches[above]._replace(direction=direction)
-                is_needed = depth in sibling.needed_depths
-                proved = join(branch, depth, proved, sibling) if is_needed else sibling
+                if depth in sibling.needed_depths:
+                    proved = join(branch, depth, proved, sibling)
+                else:
+                    self.search.nodes -= 1 + node_count(proved.tree)
+                    proved = sibling
+            else:
+                self.search.nodes -= sum(self._node_counts(above))
             self._drop(above)
             place = above
         self.proved[place] = proved
+
+    def _node_counts(self, place: str) -> Iterator[int]:
+        """The nodes at a place and below it that `nodes` counts, part by part: branching nodes,
+        proofs, and what is open of subtrees."""
+        yield from (1 for at in self.branches if at.startswith(place))
+        yield from (node_count(p.tree) for at, p in self.proved.items() if at.startswith(place))
+        for subtree in self.subtrees():
+            if subtree.place.startswith(place) and not subtree.is_dropped:
+                siblings = (node.sibling for node in subtree.open_nodes if node.sibling is not None)
+                proved = sum(node_count(sibling.tree) for sibling in siblings)
+                yield len(subtree.open_nodes) + proved
 
     def _drop(self, place: str) -> None:
         """Forgets the branches and proofs at a place and below it, and marks the subtrees there as
@@ -458,11 +474,10 @@ class ParallelSearch:
         return None
 
     def _take(self, subtree: Subtree, future: Future[UnitResult]) -> Optional[ImprovedIncumbent]:
-        """Takes what a unit made of its subtree: open nodes, or the proof, and nodes and
-        pseudocosts.
+        """Takes what a unit made of its subtree: open nodes, or the proof, and nodes and what it
+        learnt of pseudocosts.
 
-        The pseudocosts of the unit that came back last are those of all units that are made from
-        then on. Where the process died, the subtree stays as it was and is worked again.
+        Where the process died, the subtree stays as it was and is worked again.
 
         Returns:
             The better point where the unit found one; then the subtree stays as it was.
@@ -475,7 +490,7 @@ class ParallelSearch:
         if result is None or result.improved is not None:
             return None if result is None else result.improved
         self.search.nodes += result.nodes
-        self.search.branching.pseudocosts = result.pseudocosts
+        self.search.branching.pseudocosts.add(result.learnt)
         kept = {
             key: node.sibling.tree
             for key, node in enumerate(subtree.open_nodes)

@@ -49,6 +49,9 @@ TURN_SECONDS = 0.25  # that a turn has at least
 PLAIN_TURN_SECONDS = 0.1  # of a run that has no other strategy
 PLAIN_RESERVE_SECONDS = 1.0  # for a bound, in such a run
 OTHERS_SHARE = 0.1  # of all seconds, for what is not the first strategy
+CUTS_SHARE = 0.2  # of all seconds, for cuts, whatever other strategies took
+LEAST_ROUND_SECONDS = 0.2  # of these at a time: a round of cuts takes its time
+MOST_STRATEGIES_BELOW_CUTS = 5
 FARTHEST_FORECAST = 2.0  # times the seconds so far: later ends of the first strategy count as this
 LEAST_CUT_SECONDS = 0.05  # from which on cuts are made
 FIRST_CUT_SECONDS = 0.5  # that they may be made at once
@@ -228,8 +231,9 @@ class Portfolio:
             live = [strategy for strategy in self.strategies if not strategy.has_ended]
             first = self._likely_first(live)
             seconds = self.time_for_others(first)
-            if self._is_preparation_due(seconds):
-                self._prepare(seconds)
+            preparing = max(seconds, self.time_for_cuts())
+            if self._is_preparation_due(preparing):
+                self._prepare(preparing)
             elif first is None:
                 break
             else:
@@ -309,6 +313,19 @@ class Portfolio:
         others = total - first.spent
         seconds = min(OTHERS_SHARE * (total + rest) - others, rest / 2)
         return max(seconds, FIRST_CUT_SECONDS - others) if self.has_no_value else seconds
+
+    def time_for_cuts(self) -> float:
+        """Seconds that may go now to cuts alone, whatever other strategies took: CUTS_SHARE of all,
+        less what was made; minus infinity where that is not enough for a round of them.
+
+        A round is LEAST_ROUND_SECONDS, and twice as long after each that was in vain.
+        """
+        preparation = self.preparation
+        if preparation.names[:1] == [THIN]:
+            return -math.inf
+        seconds = CUTS_SHARE * self.seconds_so_far() - preparation.seconds
+        is_enough = seconds >= LEAST_ROUND_SECONDS * 2**preparation.vain_attempts
+        return seconds if is_enough else -math.inf
 
     def take_turn(
         self, strategy: Strategy, first: Strategy, seconds_for_others: float
@@ -468,25 +485,31 @@ class Portfolio:
         Args:
             budget: Seconds that there are for it.
         """
-        name = self.preparation.names[0]
+        name, began = self.preparation.names[0], self.deadline.spent()
         if name == THIN:
             self.preparation.names.pop(0)
             forms = self._lattice_forms()
             if forms:
                 strategy = self.begin(THIN, [], forms)
                 strategy.first_estimate = TURN_SECONDS if self.has_no_value else math.inf
-        elif self.cut_loop.solve_relaxation([]) is None:
+        elif self.cut_loop.solve_relaxation(self._cuts_so_far()) is None:
             self.preparation.names.pop(0)
         else:
             self._make_cuts(name, budget)
+        self.preparation.seconds += self.deadline.spent() - began
+
+    def _cuts_so_far(self) -> Sequence[ProvedCut]:
+        """Those of the last strategy that has some: what is made next stands below them."""
+        return next((s.cuts for s in reversed(self.strategies) if s.cuts), ())
 
     def _make_cuts(self, name: str, budget: float) -> None:
         """Makes some seconds of cuts below those that are there: the ones made before, else those
-        of the strategy with MIR cuts.
+        of the last strategy with cuts, whose relaxation `cut_loop` has solved.
 
-        They are done when the loop ends by itself, when they are in vain, or when they close half
-        of the gap (by SHARE_OF_REST). Then their strategy begins, where they close at least
-        LEAST_CLOSED_SHARE of the gap or there is no value to see that by, and the next is prepared.
+        They are done when the loop ends by itself or when they are in vain, MIR cuts at once. Then,
+        or when they close half of the gap (by SHARE_OF_REST), a strategy begins, where they close
+        at least LEAST_CLOSED_SHARE of the gap or there is no value to see that by, and the next is
+        prepared. Below cliques there is one for each half of what is left of the gap.
 
         Args:
             name: The strategy's, whose kinds of cuts are made.
@@ -495,30 +518,30 @@ class Portfolio:
         loop, preparation = self.cut_loop, self.preparation
         root_bound = loop.dual_bound
         until = self.until(min(budget, max(self.seconds_so_far(), FIRST_CUT_SECONDS)))
-        below_mir: Sequence[ProvedCut] = next(
-            (s.cuts for s in self.strategies if s.name == MIR), ()
-        )
-        before = preparation.cuts or below_mir
+        before = preparation.cuts or self._cuts_so_far()
         cuts = loop.run(KINDS_OF_CUTS[name], before, until)
         preparation.add(cuts, loop.closed_share(root_bound))
         closed_share = preparation.closed_share
-        is_enough = SHARE_OF_REST * (1 - closed_share) <= 1
-        if loop.is_over(until) and not preparation.is_in_vain() and not is_enough:
+        is_done = not loop.is_over(until) or preparation.is_in_vain()
+        if not is_done and SHARE_OF_REST * (1 - closed_share) > 1:
             return
-        preparation.names.pop(0)
+        count = sum(bool(strategy.cuts) for strategy in self.strategies)
+        if is_done or name != CLIQUE or count >= MOST_STRATEGIES_BELOW_CUTS:
+            preparation.names.pop(0)
         if cuts and (closed_share >= LEAST_CLOSED_SHARE or self.has_no_value):
             estimate = self._estimate_below_cuts(closed_share)
             self.begin(name, cuts).first_estimate = estimate
         preparation.begin_next()
 
     def _estimate_below_cuts(self, closed_share: float) -> float:
-        """Seconds that a search below cuts seems to take, which close such a share of the gap:
-        those that are left of the plain one, times SHARE_OF_REST and the share of the gap that is
-        left."""
+        """Seconds that a search below cuts seems to take, which close such a share of the gap that
+        the cuts before them left: those that are left of another strategy, of which something is
+        known, times SHARE_OF_REST and the share of the gap that is left."""
         if self.has_no_value:
             return TURN_SECONDS
         forecast = FARTHEST_FORECAST * self.seconds_so_far()
-        without_cuts = min(self.strategies[0].estimated_seconds(), forecast)
+        known = (s.estimated_seconds() for s in self.strategies if not s.cuts or s.spent)
+        without_cuts = min(forecast, *known)
         return without_cuts * SHARE_OF_REST * max(1 - closed_share, 0.0)
 
     def _lattice_forms(self) -> List[Dict[int, int]]:

@@ -13,6 +13,7 @@ from typing import Callable, ClassVar, Iterator, Mapping, NamedTuple, Optional
 
 from ..system.deadline import Deadline
 from ..system.errors import SearchEnded, SearchPaused
+from .clp import Clp
 from .work_limit import shorten_work
 
 PROGRESS_SECONDS = 0.5  # between two looks at what is told of the progress
@@ -39,8 +40,8 @@ class SearchProgress(NamedTuple):
 class SearchDeadline(Deadline):
     """The limit of all searches for one certificate.
 
-    All has ended a tenth and 5 s after the limit, counted from the start on the wall's clock, also
-    on a busy machine where the limit is in processor time.
+    All has ended a tenth and 5 s after the limit, or when its maker says, counted from the start on
+    the wall's clock, also on a busy machine where the limit is in processor time.
 
     Attributes:
         process_is_ending: Of a process of a pool, whichever deadline asks: what it works is paused.
@@ -52,18 +53,28 @@ class SearchDeadline(Deadline):
 
     process_is_ending: ClassVar[bool] = False
 
-    def __init__(self, limit: float = math.inf, *, of_processor: bool = False) -> None:
+    def __init__(
+        self,
+        limit: float = math.inf,
+        *,
+        of_processor: bool = False,
+        all_within: Optional[float] = None,
+    ) -> None:
         """It begins now.
 
         Args:
             limit: Seconds, of the wall, or where it is `of_processor` of this process's processor
                 time.
+            all_within: Seconds of the wall in which all must have ended, the last verdict too: at
+                least KEPT_SECONDS more than the limit. None: a tenth and GRACE_SECONDS more.
         """
         super().__init__(limit, of_processor=of_processor)
+        if all_within is None:
+            all_within = limit * (1 + GRACE_SHARE) + GRACE_SECONDS
         self.on_progress: Optional[Callable[[SearchProgress], None]] = None
         self.incumbent: Optional[float] = None
         self.is_interrupted = False
-        self._all = Deadline(limit * (1 + GRACE_SHARE) + GRACE_SECONDS)
+        self._all = Deadline(all_within)
         self._verdict_share = 1.0
         self._told_at = time.monotonic()
 
@@ -114,11 +125,12 @@ class SearchDeadline(Deadline):
             raise SearchPaused(f"time ({nodes} nodes)")
 
     def interrupt(self) -> None:
-        """The user ends the search: at its next node, and exact work of this thread within
-        INTERRUPT_SECONDS; a solve of CLP ends by its own limit. Called by the handler of a signal,
-        in the main thread."""
+        """The user ends the search: at its next node, and exact work of this thread and solves of
+        CLP within INTERRUPT_SECONDS, of which a running one ends behind its slice. Called by the
+        handler of a signal, in the main thread."""
         self.is_interrupted = True
         shorten_work(Deadline(INTERRUPT_SECONDS))
+        Clp.shorten(Deadline(INTERRUPT_SECONDS))
 
     def why(self, reason: str) -> str:
         """Why a search has no tree, in words: the reason that it gives itself, or an interrupt,

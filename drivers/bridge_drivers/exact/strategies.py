@@ -123,11 +123,13 @@ class Preparation:
         cuts: Made so far for the first of them; those that were there before included.
         closed_share: Of the gap between root bound and value, by these.
         vain_attempts: How many in a row closed no more.
+        seconds: That all of it took so far.
     """
 
     def __init__(self, names: Sequence[str]) -> None:
         """Nothing is made yet of these strategies, of which the first is prepared first."""
         self.names = list(names)
+        self.seconds = 0.0
         self.begin_next()
 
     def begin_next(self) -> None:
@@ -145,5 +147,6 @@ class Preparation:
         self.closed_share = closed_share
 
     def is_in_vain(self) -> bool:
-        """Whether more than MOST_VAIN_ATTEMPTS in a row were in vain."""
-        return self.vain_attempts > MOST_VAIN_ATTEMPTS
+        """Whether more than MOST_VAIN_ATTEMPTS in a row were in vain; of MIR cuts alone one is
+        enough, since cliques come next."""
+        return self.vain_attempts > (MOST_VAIN_ATTEMPTS if self.names[0] == CLIQUE else 0)

@@ -105,7 +105,7 @@ class UnitResult(NamedTuple):
         proved: The subtree, where all of it is proved. Remote subtrees of the unit stand in it as
             they came.
         open_nodes: Else what is left of it, from its root to where the search stands.
-        pseudocosts: Those of the unit, and what it learnt.
+        learnt: What pseudocosts it learnt, without those that it was given.
         nodes: How many nodes more the subtree has; below 0 where more fell away than came.
         improved: A better point, where one was found; then the unit is as it was before.
         why_not_closed: Why the node does not close where the search stands; empty where it may.
@@ -113,7 +113,7 @@ class UnitResult(NamedTuple):
 
     proved: Optional[ProvedSubtree]
     open_nodes: List[OpenNode]
-    pseudocosts: Pseudocosts
+    learnt: Pseudocosts
     nodes: int
     improved: Optional[ImprovedIncumbent] = None
     why_not_closed: str = ""
@@ -149,14 +149,14 @@ def work(unit: WorkUnit) -> UnitResult:
         why_not_closed = fault.reason
     except SearchPaused:
         pass
-    pseudocosts = search.branching.pseudocosts
+    learnt = search.branching.pseudocosts.less(unit.pseudocosts)
     if isinstance(found, ImprovedIncumbent):
-        return UnitResult(None, [], pseudocosts, search.nodes, found)
+        return UnitResult(None, [], learnt, search.nodes, found)
     while len(_search_cache) >= MOST_CACHED_SEARCHES:
         _search_cache.pop(next(iter(_search_cache)))
     _search_cache[unit.problem] = search
     open_nodes = search.node.open_nodes
-    return UnitResult(found, open_nodes, pseudocosts, search.nodes, None, why_not_closed)
+    return UnitResult(found, open_nodes, learnt, search.nodes, None, why_not_closed)
 
 
 class PoolFailed(SearchEnded):
@@ -203,13 +203,18 @@ class WorkerPool:
             The future of what `work` returns or raises.
 
         Raises:
-            PoolFailed: No process can be started (`ProcessPool`).
+            PoolFailed: It is not taken, for whatever reason: no process can be started, or the
+                connection to a cluster has ended.
         """
         try:
-            return self.executor().submit(work, unit)
-        except BrokenExecutor:
+            with contextlib.suppress(BrokenExecutor):
+                return self.executor().submit(work, unit)
             self.stop()
-        return self.executor().submit(work, unit)
+            return self.executor().submit(work, unit)
+        except SearchEnded:
+            raise
+        except Exception as fault:  # whatever an executor ends by
+            raise PoolFailed(f"no processes for the search ({fault})") from None
 
     def stop(self) -> None:
         """Ends what is worked, as far as that goes. Units can be given again afterwards."""
@@ -242,10 +247,7 @@ class ProcessPool(WorkerPool):
             PoolFailed: The system starts no process.
         """
         with signals_blocked():  # a process begins with them blocked
-            try:
-                return super().submit(unit)
-            except (ImportError, NotImplementedError, OSError) as fault:
-                raise PoolFailed(f"no processes for the search ({fault})") from None
+            return super().submit(unit)
 
     def stop(self) -> None:
         """Ends all processes: they pause, or are broken off after GRACE_SECONDS. All have ended

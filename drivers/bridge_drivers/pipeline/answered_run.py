@@ -13,7 +13,7 @@ from typing import Sequence
 from ..exact.evidence import Evidence, not_proved
 from ..program.refusal import Refusal
 from ..program.verdict import FINAL, Statement, percentage, statement_of
-from ..solvers.base import Solver, SolverAnswer, SolverStatus
+from ..solvers.base import TIME_LIMIT, Solver, SolverAnswer, SolverStatus, limit_answer
 from ..solvers.run import SolverRun
 from ..system.codes import Code
 from ..system.errors import (
@@ -116,8 +116,7 @@ class AnsweredRun:
 
         Where that misses the model by much, or says little, it is asked once more.
 
-        It is not asked at all where an integer column has no whole number between its bounds: that
-        is infeasible.
+        It is not asked at all where that is of no use (`_unasked`).
 
         Raises:
             SolverFailed: It has no answer, or says `infeasible or unbounded`, which
@@ -125,10 +124,8 @@ class AnsweredRun:
             NotStarted: It could not be run.
             Interrupted: The run was interrupted before there was an answer.
         """
-        if not self.run.settings.relax and self.run.program.has_empty_domain():
-            title = self.solver.title
-            note = f"{title} was not asked: a whole variable has no whole number between its bounds"
-            found = SolverAnswer(SolverStatus.INFEASIBLE, "infeasible", notes=[note])
+        found = self._unasked()
+        if found is not None:
             return Answer(self.run.program, found, self.settings)
         try:
             answer = self._asked()
@@ -145,8 +142,24 @@ class AnsweredRun:
             raise SolverFailed(self.solver.title, answer.found.text)
         return answer
 
+    def _unasked(self) -> SolverAnswer | None:
+        """The answer where the solver need not be asked, with a note that says why; else None.
+
+        An integer column without a whole number between its bounds is infeasible, and where the
+        time of the run is over, that is the answer.
+        """
+        title = self.solver.title
+        if not self.run.settings.relax and self.run.program.has_empty_domain():
+            note = f"{title} was not asked: a whole variable has no whole number between its bounds"
+            return SolverAnswer(SolverStatus.INFEASIBLE, "infeasible", notes=[note])
+        if self.judge.shares.deadline.is_over():
+            found = limit_answer(TIME_LIMIT)
+            found.notes.append(f"{title} was not asked: the time was over when the model was read")
+            return found
+        return None
+
     def _asked(self) -> Answer:
-        """Runs the solver once, and makes decimals of its answer.
+        """Runs the solver once, in its share of the time, and makes decimals of its answer.
 
         Where the user interrupted it, the solver's words say so.
 
@@ -157,6 +170,7 @@ class AnsweredRun:
         """
         try:
             self.run.remove_answers()
+            self.run.take_time(self.judge.shares.for_solver(self.solver.title))
             found = self.solver.solve(self.run)
             if self.run.is_interrupted:
                 default = f"interrupted; {found.text}"
@@ -181,10 +195,12 @@ class AnsweredRun:
             was: What the first answer was, in words behind `its first answer`.
 
         Returns:
-            None where the solver has no other way, was asked so before or was interrupted, or fails
-            again.
+            None where the solver has no other way, was asked so before or was interrupted, fails
+                again, or where the time is over.
         """
         if self.run.is_retry or not self.solver.retry_words or self.run.is_interrupted:
+            return None
+        if self.judge.shares.deadline.is_over():
             return None
         self.run.is_retry = True
         try:
@@ -223,7 +239,7 @@ class AnsweredRun:
         resolution = resolve(answer, verdict, facts)
         lines = self._notes_on_answer(answer, resolution)
         place = len(lines)  # where a line on the .sol stands
-        lines += self._notes_on_search(resolution)
+        lines += self._notes_on_search(answer, resolution)
         try:
             passed_on, sol = self._checked(resolution.answer, verdict, lines, place)
         except Refusal as fault:
@@ -260,10 +276,17 @@ class AnsweredRun:
             lines.insert(0, CONTRADICTED if is_known else "its own answer: " + own)
         return lines
 
-    def _notes_on_search(self, resolution: Resolution) -> list[str]:
-        """Lines on the search: that the user ended it, the objective of another point, and that the
-        solver's word alone makes a proved point optimal."""
+    def _notes_on_search(self, answer: Answer, resolution: Resolution) -> list[str]:
+        """Lines on the search.
+
+        They say how a limit of time was divided that the solver or the search reached, that the
+        user ended the search, the objective of another point, and that the solver's word alone
+        makes a proved point optimal.
+        """
         lines = []
+        shares = self.judge.shares.words()
+        if shares and (self.judge.is_out_of_time or TIME_LIMIT in answer.found.text):
+            lines.append(shares)
         if self.judge.is_interrupted:
             lines.append("interrupted: the search for a certificate was ended")
         if resolution.kind:

@@ -53,7 +53,7 @@ class Progress:
     def words(self) -> str:
         """The stage, its seconds by now and what is known of it: `cbc, 3 of 60 s, incumbent 17`."""
         seconds = f"{time.monotonic() - self.began:.0f}"
-        limit = f" of {self.limit:g} s" if self.limit else " s"
+        limit = f" of {self.limit:.3g} s" if self.limit else " s"
         detail = f", {self.detail}" if self.detail else ""
         return f"{self.stage}, {seconds}{limit}{detail}"
 

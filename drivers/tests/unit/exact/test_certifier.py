@@ -15,11 +15,14 @@ from bridge_drivers.exact.certifier import certify
 from bridge_drivers.exact.clp import library
 from bridge_drivers.exact.evidence import AnswerByPlace, AnswerClaim, EvidenceStore, first_proved
 from bridge_drivers.exact.evidence import not_proved
+from bridge_drivers.exact.rational_simplex import SimplexResult
+from bridge_drivers.exact.refutations import Refuter
 from bridge_drivers.exact.search import BranchAndBound
 from bridge_drivers.exact.search_deadline import SearchDeadline, SearchProgress
-from bridge_drivers.exact.task import SearchOptions
+from bridge_drivers.exact.task import CertificationTask, SearchOptions
 from bridge_drivers.exact.work_limit import check_work
 from bridge_drivers.model.integer_form import IntegerProgram
+from bridge_drivers.system.errors import SearchPaused
 from bridge_drivers.system.signals import interrupts_to
 from integer_programs import COINS, COVER, EQUATION, KNAPSACK, KNAPSACKS, LOTS, PIGEONS
 from integer_programs import boxed_programs, mixed_programs, optimum_of
@@ -51,6 +54,43 @@ def test_claims_that_do_not_hold(p: IntegerProgram, claim: AnswerClaim) -> None:
     value = found.line.split()[-1]
     assert found.claim == "optimal" and Fraction(value) == found.value
     assert found.line == certified(p).line
+
+
+class NoTimeForFractions(Refuter):
+    """The time ends whenever the simplex method in fractions is asked."""
+
+    def _run_rational_simplex(
+        self, program: IntegerProgram, answer: AnswerByPlace
+    ) -> SimplexResult:
+        raise SearchPaused("time")
+
+
+FREE_COST = program(
+    [Column(0, None, is_integer=True, cost=-1), Column(0, None, cost=1)],
+    [Row(None, 3, {0: 2, 1: -1}), Row(0, 9, {0: 1, 1: 1})],
+)
+
+
+def test_the_time_ends_while_a_ray_is_sought() -> None:
+    """What is known is told all the same."""
+    store = EvidenceStore(FREE_COST, Judge(FREE_COST), 0, SearchDeadline(60.0))
+    refuter = NoTimeForFractions(CertificationTask(FREE_COST, store, store.deadline))
+    assert list(refuter.ray_of_point([Fraction(1), Fraction(0)])) == []
+    assert refuter.certify_ray().line == "not proved: time"
+    with mock.patch("bridge_drivers.exact.certifier.Refuter", NoTimeForFractions):
+        answer = AnswerByPlace([1.0, 0.0])
+        found = certified(FREE_COST, AnswerClaim.POINT, answer=answer)
+    assert found.is_proved and found.value is not None
+
+
+def test_an_exact_bound_is_kept() -> None:
+    """Of the simplex method in fractions, in all its digits."""
+    p = program([Column(0, None, cost=1)], [Row(1, None, {0: "0.123456789012345678901"})])
+    store = EvidenceStore(p, Judge(p), 0, SearchDeadline(60.0))
+    refuter = Refuter(CertificationTask(p, store, store.deadline))
+    found = list(refuter.by_rational_simplex())
+    assert [evidence.claim for evidence in found] == ["optimal"]
+    assert store.bound is not None and store.bound.value == found[0].value
 
 
 def test_no_point() -> None:

@@ -36,6 +36,16 @@ def test_a_variable_upper_bound() -> None:
     assert prove_mir_cut(p, cut) is not None
 
 
+def test_a_continuous_term_that_is_taken_away() -> None:
+    """x - y <= 1/2 gives x - 2 y <= 0, which holds at x = 3/2, y = 1: by no divisor there is a cut."""
+    p = program([Column(0, 3, is_integer=True), Column(0, 5)], [Row(None, "0.5", {0: 1, 1: -1})])
+    assert best_divisor(Substitutions(p, [1.5, 1.0]), {0: 1.0}, ((1, 1),)) is None
+    divisor = best_divisor(Substitutions(p, [1.5, 0.5]), {0: 1.0}, ((1, 1),))
+    assert divisor is not None
+    cut = mir_cut(Substitutions(p, [1.5, 0.5]), {0: 1.0}, divisor)
+    assert cut is not None and (cut.coefficients, cut.rhs) == ({0: 1, 1: -2}, 0)
+
+
 @given(st.floats(-50, 50), st.floats(0.01, 0.99))
 def test_the_function_of_mir(quotient: float, fraction: float) -> None:
     """It lies between the number rounded down and the number rounded up, and below the number."""
