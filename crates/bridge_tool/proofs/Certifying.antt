@@ -1,5 +1,5 @@
 -- What an .nl text and a certificate come to as a .sol text: one outcome, and what each verdict means.
-use Rattle.std.proofs.Common.{[], ◌∷◌, ◌≡◌, ◌≢◌, ◌∙◌, inl, inr, ℕ, ◌+◌, ◌-◌, ◌<◌, ◌≤◌, ◌^◌, ℤ, pos, Bool, true, false, List, Option, Some, None, Result, Ok, Err, refl, sym, ap, ap₂, subst, arith, codes, length, take}
+use Rattle.std.proofs.Common.{[], ◌∷◌, ◌≡◌, ◌≢◌, ◌∙◌, inl, inr, ℕ, ◌+◌, ◌-◌, ◌<◌, ◌≤◌, ◌^◌, ℤ, pos, Bool, true, false, List, Option, Some, None, Result, Ok, Err, refl, sym, ap, subst, arith, codes}
 use Rattle.std.specs.Prelude.{◌++◌, IfOk, IsSomeAnd, option_map}
 use Rattle.std.specs.Option.{option_map_or}
 use Rattle.std.specs.Global.{Vec}
@@ -34,7 +34,6 @@ use Rattle.command_parts.specs.Stages.{fold_steps}
 use Rattle.command_parts.proofs.TextsRead.{certificate_read}
 use Rattle.bridge_tool.specs.Certified.{ByLinear, ByShown, CertifiesAs, IsNotDecimalLine, IsPointTold, IsSolTrue, IsTextMade, TextComes, shown_of, told_bound, told_code}
 use Rattle.bridge_tool.specs.Verify.{nl_claim_row}
-use Rattle.std.proofs.lemmas.List.{length-append, take_at}
 use Rattle.nl_model.specs.File.{File}
 use Rattle.nl_model.specs.Rules.{IsFile}
 use Rattle.nl_model.proofs.Headers.{counts_of_header}
@@ -110,7 +109,9 @@ module _ (nl : NlValue) (c : CertificateValue) where
   by_line shown None = by_shown shown
   by_line shown (Some line) = same_one (Refused line) tt
 
-pub certified_last : (nl : NlValue) → IsLast true (IsCertificateText (setting_of nl.file)) (IsCertificateRefused (setting_of nl.file) 2) (λ c. CertifiesAs nl c) (λ c old new. new ≤ old + fold_steps nl (claim_objective c.claim))
+pub certified_last : (nl : NlValue) → IsLast true (IsCertificateText (setting_of nl.file))
+    (IsCertificateRefused (setting_of nl.file) 2) (λ c. CertifiesAs nl c)
+    (λ c old new. new ≤ old + fold_steps nl (claim_objective c.claim))
 certified_last nl = record {
   read = certificate_read (setting_of nl.file) 2;
   one = λ c. by_line nl c (shown_of nl c) (nl_claim_row.no_linear nl (claim_objective c.claim));
@@ -248,13 +249,18 @@ module _ (text given : List ℕ) (nl : NlValue) (c : CertificateValue) (reads : 
     asked : IsAskedFor c.claim (given_in c)
     asked = subst (IsAskedFor c.claim) (sym (back f c certificate_so)) certificate_so.asked
 
-    yes_means : (value : Option ℚ) (bytes : List ℕ) → shown_of nl c ≡ holds value → IsTextMade nl.file.options nl.file.counts.n_con nl.file.counts.n_var (outcome_text c.claim (holds value)) c bytes → IsCertifiedTrue nl c bytes
+    yes_means : (value : Option ℚ) (bytes : List ℕ) → shown_of nl c ≡ holds value
+        → IsTextMade nl.file.options nl.file.counts.n_con nl.file.counts.n_var (outcome_text c.claim (holds value)) c
+        bytes → IsCertifiedTrue nl c bytes
     yes_means value bytes is made =
-        let so : IsToldTrue p (spread p.variables (given_in c).point) (told_claim c.claim value) = subst (Says f c certificate_so p meant p.variables p.constraints (given_in c)) is (says_so f c certificate_so p meant) in
+        let so : IsToldTrue p (spread p.variables (given_in c).point) (told_claim c.claim value) =
+        subst (Says f c certificate_so p meant p.variables p.constraints (given_in c)) is
+        (says_so f c certificate_so p meant) in
         record {
           sol = made.0;
           text = made.1.1;
-          true_of = sol_true p nl.file.counts.n_var (given_in c) nl.file.options nl.file.counts.n_con c.claim value so.told made.0 so.is_told so.true_of (ray_so f p meant (given_in c) value c.claim is)
+          true_of = sol_true p nl.file.counts.n_var (given_in c) nl.file.options nl.file.counts.n_con c.claim value
+              so.told made.0 so.is_told so.true_of (ray_so f p meant (given_in c) value c.claim is)
               (duals_so nl.file k lines c.claim (given_in c) value so.told asked is so.is_told (values_of made.0.duals) made.1.0.duals_are) made.1.0;
         }
 
@@ -267,7 +273,8 @@ module _ (text given : List ℕ) (nl : NlValue) (c : CertificateValue) (reads : 
     by_verdict (holds value) is true bytes h = yes_means value bytes is h
     by_verdict (holds value) is false bytes h = absurd h
 
-  by_linear_so : (o : Option (List ℕ)) → nl_claim_row.no_linear nl k ≡ o → (held : Bool) (bytes : List ℕ) → ByLinear nl c (shown_of nl c) o (Done held bytes) → ByVerdict held (IsCertifiedTrue nl c bytes) (IsNotShown nl c)
+  by_linear_so : (o : Option (List ℕ)) → nl_claim_row.no_linear nl k ≡ o → (held : Bool) (bytes : List ℕ)
+      → ByLinear nl c (shown_of nl c) o (Done held bytes) → ByVerdict held (IsCertifiedTrue nl c bytes) (IsNotShown nl c)
   by_linear_so None none held bytes h = by_verdict none (shown_of nl c) refl held bytes h
   by_linear_so (Some line) some held bytes h = absurd cc
 
@@ -293,7 +300,9 @@ module _ (first certificate : List ℕ) where
         true_of = says.true_of;
       }
 
-  pub certified_counted : {old new : Meaning} {m n : ℕ} {answer : Answer} (t : Option Texts) → IsCounted (desk_promise true (certified_read first certificate) t) old new m n answer → IsCounted (certified_promise t first certificate) old new m n answer
+  pub certified_counted : {old new : Meaning} {m n : ℕ} {answer : Answer} (t : Option Texts)
+      → IsCounted (desk_promise true (certified_read first certificate) t) old new m n answer
+      → IsCounted (certified_promise t first certificate) old new m n answer
   certified_counted t = meant_as true (certified_read first certificate) (λ texts. SaysCertified texts first) t yes_says
 
 -- ---- what the code answers
@@ -320,7 +329,8 @@ module _ (nl : NlValue) (c : CertificateValue) (l : LinearValue) (folds : HasFol
     abbrev TextWith : List ℕ → Result (Bool × Vec ℕ) (Stop Refusal) → Type 0
     TextWith line judged = Comes (TextComes nl.file.options nl.file.counts.n_con nl.file.counts.n_var line c) judged
 
-    as_held : (value : Option ℚ) → shown_of nl c ≡ holds value → (judged : Result (Bool × Vec ℕ) (Stop Refusal)) → TextWith (outcome_text c.claim (holds value)) judged → Comes (CertifiesAs nl c) judged
+    as_held : (value : Option ℚ) → shown_of nl c ≡ holds value → (judged : Result (Bool × Vec ℕ) (Stop Refusal))
+        → TextWith (outcome_text c.claim (holds value)) judged → Comes (CertifiesAs nl c) judged
     as_held value same (Ok t) h = as_shown (holds value) same (Done t.0 t.1.items) h
     as_held value same (Err (Fault why)) h = as_shown (holds value) same (Refused why.line) h
     as_held value same (Err Memory) h = tt
@@ -342,12 +352,6 @@ objective_small file k is fine =
     let small = small_objective file k counts.objectives (file_meant file k is fine).there in
     omega (arith, small)
 
--- a line without its end
-pub cut_line : (line text : List ℕ) (n : ℕ) → line ≡ text ++ 10 ∷ [] → n ≡ length line → take (n - 1) line ≡ text
-cut_line line text n e len =
-    ap₂ (λ k bytes. take (k - 1) bytes) (len ∙ ap length e) e
-    ∙ take_at text (10 ∷ []) (length (text ++ 10 ∷ []) - 1) (omega (arith, length-append text (10 ∷ [])))
-
 -- the line of a claim that holds is a line of a message
 module _ (nl : NlValue) (c : CertificateValue) (l : LinearValue) (folds : HasFolded nl (claim_objective c.claim) l) (file : IsFile nl.file) (given : IsCertificateIn nl.file c) where
   pub message_so : (o : Judgement) → outcome_of o ≡ claim_shown (linear_value l) c → is_held (outcome_of o) ≡ true → IsMessageLine (outcome_text c.claim (outcome_of o))
@@ -358,6 +362,8 @@ module _ (nl : NlValue) (c : CertificateValue) (l : LinearValue) (folds : HasFol
       let p = problem_of nl.file k in
       let certified = certificate_of nl.file k c given in
       let means = file_meant nl.file k file folds.fine in
-      let so : IsToldTrue p (spread p.variables (given_in c).point) (told_claim c.claim (value_found v)) = subst (Says f c certified p means p.variables p.constraints (given_in c)) (sym (is ∙ shown_is nl c l folds)) (says_so f c certified p means) in
+      let so : IsToldTrue p (spread p.variables (given_in c).point) (told_claim c.claim (value_found v)) =
+      subst (Says f c certified p means p.variables p.constraints (given_in c)) (sym (is ∙ shown_is nl c l folds))
+      (says_so f c certified p means) in
       subst IsMessageLine (sym (ap (λ (t : Option Told). option_map_or told_text t [] ++ objective_text k) so.is_told))
       (message_line so.told k (told_fits c.claim v so.told (bound_fits f c certified) so.is_told) (objective_small nl.file k file folds.fine))

@@ -91,8 +91,12 @@ module _ (f : Linear) (g : Given) (ps : List Pair) (leaf : g.tree ≡ Some (dual
 
   pub leaf_closes : (claim : Claim) (o : Option ℚ) (told : Told) → IsAskedFor claim g → claim_outcome f claim g ≡ holds o → told_claim claim o ≡ Some told
       → IsSomeAnd (told_bound told) (Closes f (duals_leaf (spread (row_count f) ps)))
-  leaf_closes (Optimal k) o told asked h e = optimal_closes f (duals_leaf (spread (row_count f) ps)) (spread (variable_count f) g.point) o told (ap (outcome f) (sym (over (optimal_by (spread (variable_count f) g.point)))) ∙ h) e
-  leaf_closes (Within k b) o told asked h e = within_closes f (duals_leaf (spread (row_count f) ps)) (spread (variable_count f) g.point) (number_value b) o told (ap (outcome f) (sym (over (near (spread (variable_count f) g.point) (number_value b)))) ∙ h) e
+  leaf_closes (Optimal k) o told asked h e = optimal_closes f (duals_leaf (spread (row_count f) ps))
+      (spread (variable_count f) g.point) o told (ap (outcome f)
+      (sym (over (optimal_by (spread (variable_count f) g.point)))) ∙ h) e
+  leaf_closes (Within k b) o told asked h e = within_closes f (duals_leaf (spread (row_count f) ps))
+      (spread (variable_count f) g.point) (number_value b) o told
+      (ap (outcome f) (sym (over (near (spread (variable_count f) g.point) (number_value b)))) ∙ h) e
   leaf_closes (Bound k v) o told asked h e = bound_closes f (duals_leaf (spread (row_count f) ps)) (number_value v) o told (ap (outcome f) (sym (over (bounded (number_value v)))) ∙ h) e
   leaf_closes (Feasible k) o told asked h e = absurd (no_tree asked.1)
   leaf_closes Infeasible o told asked h e = absurd (no_weights (subst HasWeights leaf asked.2))
@@ -133,14 +137,17 @@ module _ (file : File) (k : ℕ) (lines : HasLines file k) (ys : List ℚ) (b : 
   file_shows = record {
     sides = file_sides;
     best = λ xs inside.
-        let got = h.best xs (within_too xs inside) in
-        (got.0, record {
-          value = got.1.value;
-          objective = same_objective file k lines xs ∙ got.1.objective;
-          body = got.1.body;
-          bodies = λ i l. lines.bodies i l xs ∙ same_body xs i l ∙ got.1.bodies i (row_there i l);
-          total = got.1.total ∙ ap (λ z. got.1.value +ℚ z) (same_lacks got.1.body);
-        }, subst (λ (max : Bool). IsAsGood max b got.0) (same_sense file k) got.2);
+        let got = h.best xs (within_too xs inside) in (
+          got.0,
+          record {
+            value = got.1.value;
+            objective = same_objective file k lines xs ∙ got.1.objective;
+            body = got.1.body;
+            bodies = λ i l. lines.bodies i l xs ∙ same_body xs i l ∙ got.1.bodies i (row_there i l);
+            total = got.1.total ∙ ap (λ z. got.1.value +ℚ z) (same_lacks got.1.body);
+          },
+          subst (λ (max : Bool). IsAsGood max b got.0) (same_sense file k) got.2,
+        );
   }
 
 -- ---- the duals of a claim that holds show the bound that is told

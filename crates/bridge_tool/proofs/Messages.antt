@@ -1,5 +1,6 @@
 -- The line of a claim that holds is one line of a message, where the numbers that are told fit.
-use Rattle.std.proofs.Common.{◌≡◌, Option, Some, None, ℕ, suc, ◌<◌, ◌^◌, ℤ, pos, negsuc, Bool, true, false, List, [], ◌∷◌, ◌++◌, length, if◌then◌else◌, refl, subst, arith, append_assoc, codes, nat_lt, nat_eq}
+use Rattle.std.proofs.Common.{◌≡◌, Option, Some, None, ℕ, suc, ◌<◌, ◌^◌, ℤ, pos, negsuc, Bool, true, false, List, []}
+use Rattle.std.proofs.Common.{◌∷◌, ◌++◌, length, if◌then◌else◌, refl, subst, arith, append_assoc, codes, nat_lt, nat_eq}
 use Rattle.std.specs.Prelude.{unsigned_abs}
 use Rattle.std.specs.List.{list_all}
 use Rattle.std.specs.Fmt.{decimal, signed_decimal}
@@ -59,7 +60,9 @@ free front (b ∷ c ∷ word) some all = subst EndsFree (append_assoc front (b �
 number_printed : (x : ℚ) → fits x ≡ true → IsPrinted (number_text x)
 number_printed x e =
     let parts = and_parts (is_small (unsigned_abs x.top)) (is_small x.bottom) e in
-    printed-append (signed_decimal x.top) (if nat_eq x.bottom 1 then [] else (47 ∷ decimal x.bottom)) (signed_printed x.top (ltb-true (unsigned_abs x.top) (2 ^ 127) parts.0)) (by (ltb-true x.bottom (2 ^ 127) parts.1) (nat_eq x.bottom 1))
+    printed-append (signed_decimal x.top) (if nat_eq x.bottom 1 then [] else (47 ∷ decimal x.bottom))
+    (signed_printed x.top (ltb-true (unsigned_abs x.top) (2 ^ 127) parts.0))
+    (by (ltb-true x.bottom (2 ^ 127) parts.1) (nat_eq x.bottom 1))
   where
     by : x.bottom < 2 ^ 127 → (b : Bool) → IsPrinted (if b then [] else (47 ∷ decimal x.bottom))
     by h true = tt

@@ -43,11 +43,13 @@ fn sol_text_of(
     counts: Counts,
     options: Options,
     line: &[u8],
+    objective: u32,
     certificate: &Certificate,
 ) -> Result<(bool, Vec<u8>), Stop<Refusal>>
     requires certificate { IsCertificateBy counts.n_con counts.n_var certificate.now }
     requires line { IsMessageLine line.now }
-    requires objective { claim_objective certificate.now.claim < 2 ^ 31 }
+    requires objective { objective ≡ claim_objective certificate.now.claim }
+    requires small { objective < 2 ^ 31 }
     ensures { Comes (TextComes options counts.n_con counts.n_var line.now certificate.now) result }
 {
     match certified_solution(
@@ -56,6 +58,7 @@ fn sol_text_of(
         counts.n_con,
         counts.n_var,
         line,
+        objective,
         certificate,
     )? {
         Some(sol) => {
@@ -92,7 +95,7 @@ fn to_output<L: Ledger>(
         return Ok((false, Vec::new(alloc)));
     }
     let message = message_of(alloc, certificate.claim(), outcome)?;
-    sol_text_of(alloc, counts, options, &message, certificate)
+    sol_text_of(alloc, counts, options, &message, objective, certificate)
 }
 
 /// Certifies an answer: reads both texts, judges the certificate, and writes the .sol text of its

@@ -23,11 +23,7 @@ pub(crate) fn fraction(number: &Number) -> Frac
 /// The numbers of n indices; those without a pair are 0. The judge of a point and a ray asks, and
 /// who makes a .sol file of a certificate.
 #[tactic(auto, using(crate::proofs::Written::writes))]
-pub fn numbers_of(
-    alloc: Global,
-    n: u32,
-    pairs: &[(u32, Number)],
-) -> Result<Vec<Frac>, AllocError>
+pub fn numbers_of(alloc: Global, n: u32, pairs: &[(u32, Number)]) -> Result<Vec<Frac>, AllocError>
     requires { AreNumbers 0 n pairs.now }
     ensures numbers { IfOk result (λ v. map frac_value v.items ≡ spread n pairs.now) }
     ensures count { IfOk result (λ v. length v.items ≡ n) }

@@ -1,5 +1,5 @@
 -- Decimals of numbers, found one by one.
-use Rattle.std.proofs.Common.{◌≡◌, ◌⊎◌, inl, inr, ◌∙◌, ℕ, ◌+◌, ◌<◌, ◌≤◌, Bool, true, false, List, [], ◌∷◌, ◌++◌, length, drop, map, Option, Some, None, refl, sym, ap, ap₂}
+use Rattle.std.proofs.Common.{◌≡◌, ◌∙◌, ℕ, ◌+◌, ◌<◌, ◌≤◌, Bool, true, false, List, [], ◌∷◌, ◌++◌, length, drop, map, Option, Some, None, refl, sym, ap, ap₂}
 use Rattle.std.specs.Prelude.{◌&&◌, get_or, MatchOption}
 use Rattle.std.proofs.lemmas.Bool.{both_ways, and_parts, false_from_ne_true}
 use Rattle.std.proofs.lemmas.List.{append-nil, append_assoc, drop_all, map-append}
@@ -61,10 +61,6 @@ pub values_decimal : (ds : List Dec) → are_decimal (values_of ds) ≡ true
 values_decimal [] = refl
 values_decimal (d ∷ ds) = ap₂ (λ a b. a && b) (fits_value d) (values_decimal ds)
 
-pub where_all : (b : Bool) → (b ≡ true) ⊎ (b ≡ false)
-where_all true = inl refl
-where_all false = inr refl
-
 -- a number without a decimal among them
 not_all : (xs : List ℚ) (x : ℚ) (ys : List ℚ) → fits_dec x ≡ false → are_decimal (xs ++ x ∷ ys) ≡ false
 not_all [] x ys e = ap (λ b. b && are_decimal ys) e
@@ -91,7 +87,9 @@ module _ (numbers : List Frac) (found : List Dec) (k : ℕ) (x : Frac) (a : AreF
   }
 
   pub one_without : (FitsDec (frac_value x) → ⊥) → are_decimal (map frac_value numbers) ≡ false
-  one_without none = ap are_decimal (sym next_is) ∙ not_all (values_of found) (frac_value x) (map frac_value (drop (k + 1) numbers)) (false_from_ne_true (fits_dec (frac_value x)) (λ t. none (fits_dec_out (frac_value x) t)))
+  one_without none = ap are_decimal (sym next_is) ∙ not_all (values_of found) (frac_value x)
+      (map frac_value (drop (k + 1) numbers)) (false_from_ne_true (fits_dec (frac_value x))
+      (λ t. none (fits_dec_out (frac_value x) t)))
 
 pub all_found : (numbers : List Frac) (found : List Dec) (k : ℕ) → AreFirst numbers found k → length numbers ≤ k → AreDecimalsOf (Some found) (map frac_value numbers)
 all_found numbers found k a h =

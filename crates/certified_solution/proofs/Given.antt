@@ -131,7 +131,8 @@ module _ (m n : ℕ) (c : CertificateValue) (h : IsCertificateBy m n c) where
   pub no_duals : begins_with_duals c.nodes ≡ false → dual_values m (given_in c).tree ≡ []
   no_duals e = ap where_decimal (ap (leaf_values m) tree_is ∙ no_leaf m given.tree (ap begins_with_duals h.3.nodes ∙ e))
 
-  pub some_duals : (e : begins_with_duals c.nodes ≡ true) → are_decimal (spread m (drop c.ray (drop c.point c.pairs))) ≡ true → dual_values m (given_in c).tree ≡ spread m (drop c.ray (drop c.point c.pairs))
+  pub some_duals : (e : begins_with_duals c.nodes ≡ true) → are_decimal (spread m (drop c.ray (drop c.point c.pairs)))
+      ≡ true → dual_values m (given_in c).tree ≡ spread m (drop c.ray (drop c.point c.pairs))
   some_duals e fit = ap where_decimal (leaf_is e) ∙ where_all (spread m (drop c.ray (drop c.point c.pairs))) fit
 
   pub wide_duals : (e : begins_with_duals c.nodes ≡ true) → are_decimal (spread m (drop c.ray (drop c.point c.pairs))) ≡ false → dual_values m (given_in c).tree ≡ []

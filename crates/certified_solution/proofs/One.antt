@@ -61,7 +61,9 @@ module _ (options : List ℤ) (m n : ℕ) (line : List ℕ) (claim : Claim) (g :
   }
 
   -- ---- how it is built
-  pub built : (objective code : ℕ) (ds xs : List Dec) (s0 s1 s2 s3 s4 : Sol) → s0 ≡ empty_sol options m n → s1 ≡ record s0 { message = s0.message ++ line ∷ [] } → s2 ≡ record s1 { duals = s1.duals ++ ds } → s3 ≡ record s2 { primals = s2.primals ++ xs } → s4 ≡ record s3 { objno = Some (pos objective, pos code) }
+  pub built : (objective code : ℕ) (ds xs : List Dec) (s0 s1 s2 s3 s4 : Sol) → s0 ≡ empty_sol options m n
+      → s1 ≡ record s0 { message = s0.message ++ line ∷ [] } → s2 ≡ record s1 { duals = s1.duals ++ ds }
+      → s3 ≡ record s2 { primals = s2.primals ++ xs } → s4 ≡ record s3 { objno = Some (pos objective, pos code) }
       → objective ≡ claim_objective claim → code ≡ code_of claim → values_of ds ≡ dual_values m g.tree → values_of xs ≡ point_values n claim g → IsSolutionOf options m n line claim g s4
   built objective code ds xs s0 s1 s2 s3 s4 e0 e1 e2 e3 e4 number status rows columns =
       rw (e4, e3, e2, e1, e0, number, status) (record { message = refl; options_are = refl; constraints = refl; duals_are = rows; variables = refl; primals = columns; objno = refl; suffixes = refl })
@@ -103,16 +105,19 @@ module _ (options : List ℤ) (m n : ℕ) (line : List ℕ) (claim : Claim) (g :
       by true e =
           let xs = decimals_for (point_values n claim g) e in
           let ds = decimals_for (dual_values m g.tree) (where_fits (leaf_values m g.tree)) in
-          inl (record {
-            message = line ∷ [];
-            options = options;
-            n_con = m;
-            duals = ds.0;
-            n_var = n;
-            primals = xs.0;
-            objno = Some (pos (claim_objective claim), pos (code_of claim));
-            suffixes = [];
-          }, record { message = refl; options_are = refl; constraints = refl; duals_are = ds.1; variables = refl; primals = xs.1; objno = refl; suffixes = refl })
+          inl (
+            record {
+              message = line ∷ [];
+              options = options;
+              n_con = m;
+              duals = ds.0;
+              n_var = n;
+              primals = xs.0;
+              objno = Some (pos (claim_objective claim), pos (code_of claim));
+              suffixes = [];
+            },
+            record { message = refl; options_are = refl; constraints = refl; duals_are = ds.1; variables = refl; primals = xs.1; objno = refl; suffixes = refl },
+          )
 
   pub one_solution : HasOneSolution options m n line claim g
   one_solution = record { some = some; not_both = not_both; one = one }
@@ -130,7 +135,9 @@ module _ (options : List ℤ) (m n : ℕ) (line : List ℕ) (claim : Claim) (g :
   small_code Infeasible = refl
   small_code (Unbounded k) = refl
 
-  pub keeps_rules : (s : Sol) → IsSolutionOf options m n line claim g s → IsSaidLine line → list_all has_31_bits options ≡ true → length options ≤ 9 → has_second_three options ≡ false → m ≤ 2 ^ 20 → n ≤ 2 ^ 20 → claim_objective claim < 2 ^ 31 → KeepsRules s
+  pub keeps_rules : (s : Sol) → IsSolutionOf options m n line claim g s → IsSaidLine line
+      → list_all has_31_bits options ≡ true → length options ≤ 9 → has_second_three options ≡ false → m ≤ 2 ^ 20
+      → n ≤ 2 ^ 20 → claim_objective claim < 2 ^ 31 → KeepsRules s
   keeps_rules s h said fit few second rows columns objective = record {
     message = rw h.message (said, tt);
     message_room = rw h.message (omega arith);

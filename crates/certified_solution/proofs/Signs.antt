@@ -47,14 +47,17 @@ module _ (f : Linear) (v : ℚ) (ys : List ℚ) where
   by_bound (no_bound g) e h = absurd cc
   by_bound (bound b) e h = record {
     sides = side_there (none_missing b e);
-    best = λ xs within.
-        (lacking xs, record {
-          value = objective_value f xs;
-          objective = refl;
-          body = λ i. form_value (row_at f i).body (variable_count f) xs;
-          bodies = λ i l. refl;
-          total = refl;
-        }, no_better b e h xs within);
+    best = λ xs within. (
+      lacking xs,
+      record {
+        value = objective_value f xs;
+        objective = refl;
+        body = λ i. form_value (row_at f i).body (variable_count f) xs;
+        bodies = λ i l. refl;
+        total = refl;
+      },
+      no_better b e h xs within,
+    );
   }
 
   pub duals_show : proof_fault f v (duals ys) ≡ None → ShowBound (problem_in f) ys v

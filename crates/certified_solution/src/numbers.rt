@@ -12,6 +12,7 @@ use nl_model::Decs;
 use std::alloc::{AllocError, Global};
 
 // The decimals of these numbers, or none where a number has none.
+#[tactic(auto, using(crate::proofs::Decimals::none_first, crate::proofs::Decimals::one_more))]
 fn decimals_of(alloc: Global, numbers: &[Frac]) -> Result<Option<Decs>, AllocError>
     ensures { IfOk result (λ o. AreDecimalsOf o (map frac_value numbers.now)) }
 {

@@ -1,6 +1,5 @@
 // What a certificate gives for the parts of a .sol file.
 ghost use Rattle.std.specs.Prelude.{◌≡◌, ◌++◌, ◌<◌, ◌^◌, ℕ, IfOk, OnOk, length, pos, Bool, true, false, Some, None};
-ghost use Rattle.certificates.specs.Certificates.{claim_objective};
 ghost use Rattle.certificates.specs.Reading.{given_in};
 ghost use Rattle.exact_checks.specs.Terms.{values_of};
 ghost use Rattle.certified_solution.specs.Solution.{AreDecimalsOf, IsCertificateBy, code_of, dual_values, point_values};
@@ -38,21 +37,8 @@ pub(crate) fn code_of(claim: Claim) -> u32
     }
 }
 
-/// The number of the objective; 0 where the claim is of none.
-pub(crate) fn objective_of(claim: Claim) -> u32
-    ensures { result ≡ claim_objective claim }
-{
-    match claim {
-        Claim::Optimal(objective) => objective,
-        Claim::Within(objective, _) => objective,
-        Claim::Bound(objective, _) => objective,
-        Claim::Feasible(objective) => objective,
-        Claim::Infeasible => 0,
-        Claim::Unbounded(objective) => objective,
-    }
-}
-
 /// The values of the point, none where the claim has no point; or that one has no decimal.
+#[tactic(auto, using(crate::proofs::Given::without_point, crate::proofs::Given::point_room, crate::proofs::Given::point_numbers, crate::proofs::Given::point_is))]
 pub(crate) fn point_decimals(
     alloc: Global,
     n_var: u32,
@@ -77,6 +63,7 @@ fn has_duals(certificate: &Certificate) -> bool
 }
 
 /// The duals of a tree that is one leaf of duals; none of any other, or where one has no decimal.
+#[tactic(auto, using(crate::proofs::Given::point_room, crate::proofs::Given::ray_room))]
 pub(crate) fn dual_decimals(
     alloc: Global,
     n_con: u32,

@@ -14,7 +14,9 @@ returns-in-Err g c =
 pub returns-in-Err-open_certificate : goal.returns-in-Err-open_certificate
 returns-in-Err-open_certificate g c =
     certified_counted c.args.nl.now c.args.certificate.now _
-    (second_stopped nl_read certified_last IsCertifiedTrue IsNotShown c.args.nl.now c.args.certificate.now value_of itself _ _ _ c.in-Ok.read c.in-Ok.ensures.reads _ c.in-Err-open_certificate.answer c.in-Err-open_certificate.ensures.reads)
+    (second_stopped nl_read certified_last IsCertifiedTrue IsNotShown c.args.nl.now c.args.certificate.now value_of
+    itself _ _ _ c.in-Ok.read c.in-Ok.ensures.reads _ c.in-Err-open_certificate.answer
+    c.in-Err-open_certificate.ensures.reads)
 
 pub returns : goal.returns
 returns g c =

@@ -1,4 +1,4 @@
-use Rattle.std.proofs.Common.{◌∙◌, false, sym, ap, subst}
+use Rattle.std.proofs.Common.{◌∙◌, ◌<◌, ◌^◌, ℕ, false, sym, ap, subst}
 use Rattle.linear_program.specs.Programs.{linear_value}
 use Rattle.certificate_judge.specs.Outcomes.{outcome_of}
 use Rattle.certificates.specs.Certificates.{claim_objective}
@@ -51,9 +51,13 @@ sol_text_of-requires-clause-line g c =
     (message_so nl a c.in_ok-linear.linear folds c.in_ok-linear.ensures.file c.requires.certificate c.in_ok-outcome.outcome c.in_ok-outcome.ensures (sym c.is_held.ensures ∙ c.if-not-is_held.false))
 
 pub sol_text_of-requires-clause-objective : goal.sol_text_of-requires-clause-objective
-sol_text_of-requires-clause-objective g c =
+sol_text_of-requires-clause-objective g c = c.claim_objective-objective.ensures ∙ ap claim_objective c.claim.ensures
+
+pub sol_text_of-requires-clause-small : goal.sol_text_of-requires-clause-small
+sol_text_of-requires-clause-small g c =
     let folds = folded_at _ _ _ _ (c.claim_objective-objective.ensures ∙ ap claim_objective c.claim.ensures) c.in_ok-linear.ensures.folds in
-    objective_small c.args.read.file (claim_objective c.args.certificate.now.claim) c.in_ok-linear.ensures.file folds.fine
+    subst (λ (k : ℕ). k < 2 ^ 31) (sym (c.claim_objective-objective.ensures ∙ ap claim_objective c.claim.ensures))
+    (objective_small c.args.read.file (claim_objective c.args.certificate.now.claim) c.in_ok-linear.ensures.file folds.fine)
 
 pub returns-clause-comes : goal.returns-clause-comes
 returns-clause-comes g c =
@@ -64,5 +68,5 @@ returns-clause-comes g c =
     let message = c.deref.ensures.value ∙ c.in_ok-message.ensures ∙ ap (λ claim. outcome_text claim (outcome_of c.in_ok-outcome.outcome)) c.claim-2.ensures in
     let line = c.deref.result.now in
     let comes = subst (λ (n : Counts). Comes (TextComes c.args.read.file.options n.n_con n.n_var line a) c.sol_text_of.result) counts
-        (subst (λ os. Comes (TextComes os c.counts-counts.result.now.n_con c.counts-counts.result.now.n_var line a) c.sol_text_of.result) c.options_of-options.ensures c.sol_text_of.ensures) in
+    (subst (λ os. Comes (TextComes os c.counts-counts.result.now.n_con c.counts-counts.result.now.n_var line a) c.sol_text_of.result) c.options_of-options.ensures c.sol_text_of.ensures) in
     text_comes nl a c.in_ok-linear.linear folds (outcome_of c.in_ok-outcome.outcome) c.in_ok-outcome.ensures (sym c.is_held.ensures ∙ c.if-not-is_held.false) line message c.sol_text_of.result comes
