@@ -42,6 +42,7 @@ def is_judged(done: Done, command: str) -> bool:
 
 
 def truncation(program: Program) -> Iterator[Judged]:
+    """Each case with each of its files cut after each of its bytes."""
     for case in texts.cases("hostile"):
         files = {name: text.content() for name, text in case.files.items()}
         for name, whole in files.items():

@@ -168,7 +168,8 @@ def test_a_tree_for_worse_values_is_searched_once_more() -> None:
 @NEEDS_CLP
 def test_a_node_that_does_not_close(monkeypatch: pytest.MonkeyPatch) -> None:
     """All else is searched without it; then a bound that is a little worse is proved."""
-    value, solve_node, failed = Fraction(143, 10), BranchAndBound.solve_node, list[int]()
+    value, failed = Fraction(143, 10), list[int]()
+    solve_node = BranchAndBound.solve_node
 
     def failing(search: BranchAndBound, branch: Optional[Branch]) -> object:
         if search.cutoff.value == value and search.node.depth == 2 and not failed:
@@ -201,12 +202,13 @@ def test_a_node_that_never_closes(monkeypatch: pytest.MonkeyPatch) -> None:
 
 
 def test_time_for_cuts() -> None:
-    """A fifth of all seconds, whatever others took; twice as much at a time where it was in vain."""
+    """A share of all seconds, whatever others took; twice as much at a time where it was in vain."""
     portfolio = after_ten_seconds()
-    assert portfolio.time_for_cuts() == 2.0
-    portfolio.preparation.seconds = 1.9
+    share = 10.0 * portfolio_module.CUTS_SHARE
+    assert portfolio.time_for_cuts() == share
+    portfolio.preparation.seconds = share - 0.1
     assert portfolio.time_for_cuts() == -math.inf
-    portfolio.preparation.seconds = 1.5
+    portfolio.preparation.seconds = share - 0.5
     assert portfolio.time_for_cuts() == pytest.approx(0.5)
     portfolio.preparation.add([], 0.0)
     assert portfolio.time_for_cuts() == pytest.approx(0.5)
