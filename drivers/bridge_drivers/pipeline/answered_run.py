@@ -27,7 +27,9 @@ from ..system.errors import (
 )
 from ..system.errors import Interrupted
 from .answer import Answer
-from .certification import AnswerCertifier, Returned
+from ..formats.sol import read_sol
+from .certification import AnswerCertifier, Returned, is_point
+from .certified_answer import certified_answer
 from .monitor import LOGGER
 from .outcome import CODES_OF_WORDS
 from .resolution import Resolution, RunFacts, proved_duals, resolve
@@ -63,6 +65,8 @@ class Outcome:
         is_final: Whether it is proved optimal, infeasible or unbounded, or `strict` does not ask
             for that.
         kept_folder: Where the files in between are; "" where they are not kept.
+        is_certified: The .sol is the text of `bridge certified`, whose message is the verdict: it
+            is passed on as it is.
     """
 
     code: Code
@@ -74,6 +78,7 @@ class Outcome:
     stored: StoredCertificate | None = None
     is_final: bool = True
     kept_folder: str = ""
+    is_certified: bool = False
 
 
 class AnsweredRun:
@@ -240,6 +245,8 @@ class AnsweredRun:
         lines = self._notes_on_answer(answer, resolution)
         place = len(lines)  # where a line on the .sol stands
         lines += self._notes_on_search(answer, resolution)
+        if self.settings.makes_sol and self.settings.certifies_sol and not self.judge.is_mps:
+            return self._certified_outcome(resolution, verdict, lines)
         try:
             passed_on, sol = self._checked(resolution.answer, verdict, lines, place)
         except Refusal as fault:
@@ -258,6 +265,43 @@ class AnsweredRun:
             said,
             stored,
             is_final=not settings.strict or verdict.claim in FINAL,
+        )
+
+    def _certified_outcome(
+        self, resolution: Resolution, verdict: Evidence, lines: list[str]
+    ) -> Outcome:
+        """The outcome whose .sol is what `bridge certified` wrote, or one without values.
+
+        Its code is that of the .sol; where nothing could be certified it is UNSURE. Numbers that
+        the .sol does not have are not told either.
+
+        Args:
+            resolution: What would be passed on otherwise.
+            verdict: What is proved.
+            lines: Of the message, the notes on the answer and on the search.
+        """
+        certified = certified_answer(self.judge, verdict)
+        sol = certified.sol
+        code = Code.UNSURE if sol is None else sol.code
+        has_values = sol is not None and sol.statement.value is not None
+        passed_on = resolution.answer if has_values else resolution.answer.without_point(code)
+        shortfall = "" if sol is not None else resolution.shortfall or "nothing is certified"
+        ruled = resolution._replace(code=code, shortfall=shortfall)
+        said = statement_of(verdict.line) if verdict.is_proved else None
+        stored = self.judge.stored(verdict)
+        last = self.judge.closing_lines(verdict, said, stored)
+        head = self._first_line(ruled, passed_on, said)
+        is_final = sol is not None and sol.statement.claim.is_final
+        return Outcome(
+            code,
+            [head, *lines, *passed_on.notes(), certified.line(), *last],
+            None if sol is None else sol.text,
+            passed_on,
+            verdict.figures,
+            said,
+            stored,
+            is_final=is_final or not self.settings.certificate.strict,
+            is_certified=sol is not None,
         )
 
     def _notes_on_answer(self, answer: Answer, resolution: Resolution) -> list[str]:
@@ -363,7 +407,10 @@ class AnsweredRun:
         if better is not None:
             returned = self.judge.returned(better, lines, place=place)
             told = self.judge.checked(returned, verdict)
-        lines.append(self.judge.check_line(returned.answer, verdict, told))
+        line = self.judge.check_line(returned.answer, verdict, told)
+        if self.settings.certificate.prove and has_point_of(returned.sol, verdict):
+            line += "; its values are the certificate's point"
+        lines.append(line)
         return returned
 
     def _verdict(self, answer: Answer) -> Evidence:
@@ -386,6 +433,11 @@ class AnsweredRun:
             if self.settings.shows_faults:
                 raise
             return not_proved(f"a fault of the driver: {fault!r}")
+
+
+def has_point_of(sol: bytes, verdict: Evidence) -> bool:
+    """Whether a .sol has exactly the values of the point that was proved; not where either is none."""
+    return bool(sol) and verdict.is_proved and is_point(read_sol(sol).values, verdict.point)
 
 
 def with_proved_duals(answer: Answer, verdict: Evidence, told: str) -> Answer | None:

@@ -115,7 +115,9 @@ def test_remainders(moduli: List[int], x: int) -> None:
     assert judged(p, found) == f"optimal {x % period}"
 
 
-@pytest.mark.parametrize("a, b", [(1000000007, 998244353), (10**12 + 39, 10**12 + 61), (37, 21)])
+@pytest.mark.parametrize(
+    "a, b", [(1000000007, 998244353), (10**12 + 39, 10**12 + 61), (37, 21)]
+)
 @pytest.mark.parametrize("has_room", [True, False], ids=["point", "none"])
 def test_two_coprime_numbers(a: int, b: int, has_room: bool) -> None:
     """a x - b y = 1: the least x is the inverse of a; in a smaller box there is no point."""
