@@ -42,6 +42,7 @@ INTERRUPTED_WORDS = {
     SolverStatus.LIMIT: "interrupted without a feasible solution",
 }
 # of an answer that there is no point, or no best one, where the search knows better
+NOT_CERTIFIED = "its values cannot be certified"  # with strict=1
 CONTRADICTED = "its own answer is contradicted by what was found, which no certificate can hold"
 # a search that ends by one of these proves nothing, and the answer stands as it is
 SEARCH_FAULTS = (ArithmeticError, AssertionError, LookupError, TypeError, ValueError)
@@ -285,7 +286,7 @@ class AnsweredRun:
         code = Code.UNSURE if sol is None else sol.code
         has_values = sol is not None and sol.statement.value is not None
         passed_on = resolution.answer if has_values else resolution.answer.without_point(code)
-        shortfall = "" if sol is not None else resolution.shortfall or "nothing is certified"
+        shortfall = "" if sol is not None else resolution.shortfall or NOT_CERTIFIED
         ruled = resolution._replace(code=code, shortfall=shortfall)
         said = statement_of(verdict.line) if verdict.is_proved else None
         stored = self.judge.stored(verdict)

@@ -10,7 +10,7 @@ import pytest
 from builders.nl_text import least, nl_text, real, row, whole
 from running.places import EXAMPLES, program
 from running.stored_runs import stored_runs
-from running.workspace import Call, SolContent, Workspace
+from running.workspace import Call, Reply, SolContent, Workspace
 
 pytestmark = pytest.mark.needs("program", "clp_library")
 
@@ -74,10 +74,25 @@ def test_a_value_without_a_decimal(workspace: Workspace) -> None:
 def test_nothing_is_certified(workspace: Workspace, words: str) -> None:
     """No value of the solver reaches the modelling system."""
     workspace.write_model("knap")
+    workspace.check(
+        Call(
+            f"bridge-cbc m {words}",
+            0 if "-AMPL" in words else 7,
+            stored="knap",
+            bridge_says={"verify": Reply(1, "leaf 0 gap 20")},
+            sol=SolContent(code=100, values=[], duals=[], matches=["nothing is certified"]),
+        )
+    )
+
+
+def test_a_point_alone(workspace: Workspace) -> None:
+    """It is certified as feasible, which does not settle the question."""
+    workspace.write_model("knap")
     run = stored_runs("cbc")["knap"]
-    workspace.replay("cbc", run, "m", *words.split(), without=["clp", "fractions"])
+    ended = workspace.replay("cbc", run, "m", "-s", "strict=1", without=["clp", "fractions"])
     sol = workspace.sol()
-    assert (sol.code, sol.values, sol.duals) == (100, [], [])
+    assert (ended.status, sol.code, sol.message) == (7, 100, ["feasible 17"])
+    assert sol.values == [1, 1, 0]
 
 
 @pytest.mark.needs("cbc")
