@@ -171,15 +171,15 @@ class PseudocostBranching:
         pseudocosts: What is known already; it is copied.
 
     Attributes:
-        strong_seconds: Of the wall, that choosing took so far.
-        began: When this was made, by the monotonic clock.
+        strong_seconds: Of the processor, that choosing took so far.
+        began: When this was made, by the processor's clock.
     """
 
     def __init__(self, strong_candidates: int, pseudocosts: Optional[Pseudocosts] = None) -> None:
         self.strong_candidates = strong_candidates
         self.pseudocosts = Pseudocosts() if pseudocosts is None else pseudocosts.copy()
         self.strong_seconds = 0.0
-        self.began = time.monotonic()
+        self.began = time.process_time()
 
     def choose(self, node: Node, relaxed: Relaxed, fractional: Sequence[int]) -> Tuple[int, int]:
         """The column of `fractional` to branch on, and the direction that is searched first.
@@ -192,11 +192,11 @@ class PseudocostBranching:
         Args:
             fractional: Columns, and forms behind them, whose values are not integer: at least one.
         """
-        now = time.monotonic()
+        now = time.process_time()
         is_late = self.strong_seconds > UNHURRIED_SECONDS + STRONG_SHARE * (now - self.began)
         tries = STRONG_CANDIDATES_LATE if is_late else self.strong_candidates
         best = self._best(node, relaxed, self.ranked(node, relaxed, fractional), tries)
-        self.strong_seconds += time.monotonic() - now
+        self.strong_seconds += time.process_time() - now
         return best.column, best.better_direction()
 
     def ranked(self, node: Node, relaxed: Relaxed, fractional: Sequence[int]) -> List[Candidate]:

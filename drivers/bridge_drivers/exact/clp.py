@@ -12,7 +12,7 @@ import ctypes.util
 import enum
 import math
 import time
-from typing import Any, Iterable, List, Mapping, NamedTuple, Optional, Sequence, Tuple
+from typing import Any, Iterable, Iterator, List, Mapping, NamedTuple, Optional, Sequence, Tuple
 
 from ..model.double_form import DoubleBound, DoubleProgram
 from ..system.deadline import Deadline
@@ -123,7 +123,7 @@ def library() -> Optional[ctypes.CDLL]:
 
 def _load() -> Optional[ctypes.CDLL]:
     """The first library by the known names that has all calls, whose types are set; else None."""
-    for name in filter(None, (*LIBRARY_NAMES, ctypes.util.find_library("Clp"))):
+    for name in _library_names():
         try:
             found = ctypes.CDLL(name)
             for call, signature in _SIGNATURES.items():
@@ -136,6 +136,14 @@ def _load() -> Optional[ctypes.CDLL]:
     return None
 
 
+def _library_names() -> Iterator[str]:
+    """The known names; and then what the system finds, which starts `ldconfig` and takes long."""
+    yield from LIBRARY_NAMES
+    found = ctypes.util.find_library("Clp")
+    if found is not None:
+        yield found
+
+
 class Clp:
     """A relaxation whose bounds change. What is asked of it is of the last `solve`.
 
@@ -144,10 +152,11 @@ class Clp:
     CLP scales rows itself. What methods take and answer is in the program's own units.
 
     Attributes:
-        deadline_of_all: With which each solve of any relaxation ends at last.
+        deadline_of_all: With which each solve of any relaxation ends at last. All seconds of solves
+            are those of its clock, the wall's or the processor's.
         deadline: Of what this relaxation is solved for: a solve gets the time that is left of it
             when it begins, with a least and a most.
-        seconds: Of the wall, that one solve may take of a relaxation that has no such deadline.
+        seconds: That one solve may take of a relaxation that has no such deadline.
         n: The count of columns.
         m: The count of rows.
         column_factors: By column: CLP's value is this times the column's own.
@@ -218,7 +227,7 @@ class Clp:
         self.deadline = deadline
 
     def seconds_of_solve(self) -> float:
-        """Of the wall, how long a solve may take that begins now."""
+        """How long a solve may take that begins now."""
         seconds = self.seconds
         if self.deadline is not None:
             seconds = min(max(self.deadline.left(), LEAST_SOLVE_SECONDS), MOST_SOLVE_SECONDS)
@@ -264,7 +273,8 @@ class Clp:
         self._send_bounds()
         lib.Clp_setNumberIterations(model, 0)
         lib.Clp_setMaximumIterations(model, most_iterations)
-        now = time.monotonic()
+        clock = time.process_time if self.deadline_of_all.of_processor else time.monotonic
+        now = clock()
         portion = FIRST_SLICE
         end = now + self.seconds_of_solve()
         while True:
@@ -273,7 +283,7 @@ class Clp:
             (lib.Clp_primal if by_primal else lib.Clp_dual)(model, 0)
             if not self._is_stopped() or lib.Clp_numberIterations(model) >= most_iterations:
                 break
-            began, now = now, time.monotonic()
+            began, now = now, clock()
             end = min(end, now + self.deadline_of_all.left())
             if now >= end:
                 break

@@ -15,7 +15,6 @@ from __future__ import annotations
 
 import math
 import pickle
-import time
 import weakref
 from concurrent.futures import FIRST_COMPLETED, Future, wait
 from dataclasses import dataclass
@@ -83,8 +82,10 @@ class ParallelSearch:
         set_aside: Subtrees whose first node was neither closed nor branched on, for the cutoff of
             now.
         running: Those that the pool works; none between two calls of `resume`.
-        reports_progress: Whether the deadline is told of it.
-        began: On the wall's clock, in seconds.
+        reports_progress: Whether its progress is told.
+        on_progress: Tells it, in place of `tell_progress`: a portfolio tells that of all its
+            searches together.
+        began: The second of the deadline.
     """
 
     def __init__(
@@ -108,12 +109,13 @@ class ParallelSearch:
         this: ParallelSearch = weakref.proxy(self)  # so that CLP's memory is free with the last use
         self.search.on_node = lambda: this.report_progress()
         self.reports_progress = True
+        self.on_progress: Optional[Callable[[], None]] = None
         self.running: Dict[Future[UnitResult], Subtree] = {}
         self.waiting = [Subtree("", [])]
         self.set_aside: List[Subtree] = []
         self.branches: Dict[str, Branch] = {}
         self.proved: Dict[str, ProvedSubtree] = {}
-        self.began = time.monotonic()
+        self.began = deadline.spent()
 
     @cached_property
     def packed_problem(self) -> bytes:
@@ -227,16 +229,29 @@ class ParallelSearch:
             0.5**depth for depth, node in open_nodes if node.sibling is not None
         )
 
-    def report_progress(self) -> None:
-        """Tells the deadline of nodes, open nodes and the bound, in the objective's own sense.
+    def open_count(self) -> int:
+        """How many nodes are open: known, and neither proved nor branched on."""
+        return sum(1 + len(subtree.open_nodes) for subtree in self.subtrees())
 
-        The search calls it at nodes where the progress is due. Without a cutoff no bound is told,
-        and nothing where `reports_progress` is not set.
+    def report_progress(self) -> None:
+        """Has the progress told, unless `reports_progress` is not set.
+
+        The search calls it at nodes where the progress is due.
         """
-        if not self.reports_progress:
-            return
-        open_nodes = sum(1 + len(subtree.open_nodes) for subtree in self.subtrees())
-        known = {"nodes": float(self.search.nodes), "open": float(open_nodes)}
+        if self.reports_progress:
+            (self.on_progress or self.tell_progress)()
+
+    def tell_progress(self) -> None:
+        """Tells the deadline of nodes, open nodes, the share of the tree that is closed, and the
+        bound, in the objective's own sense.
+
+        Without a cutoff no bound is told.
+        """
+        known = {
+            "nodes": float(self.search.nodes),
+            "open": float(self.open_count()),
+            "closed": self.proved_share(),
+        }
         if self.search.cutoff.value is not None:
             known["bound"] = self.search.program.sign * self.dual_bound
         self.deadline.tell_numbers(**known)
@@ -435,13 +450,15 @@ class ParallelSearch:
             self.running[future] = self.waiting.pop()
 
     def _unit(self, subtree: Subtree, until: float) -> WorkUnit:
-        """What a process gets of a subtree: for UNIT_SHARE of the seconds of the wall since
-        `began`, within the limits of units, at least what the subtree asks, and not beyond `until`.
+        """What a process gets of a subtree: for UNIT_SHARE of the seconds of the search so far,
+        within the limits of units, at least what the subtree asks, and not beyond `until`; all by
+        the clock of the deadline.
 
         What is proved of siblings stays here; a RemoteSubtree stands for it, with its place among
         the open nodes as the key, by which `_take` puts it back.
         """
-        seconds = max(UNIT_SHARE * (time.monotonic() - self.began), LEAST_UNIT_SECONDS)
+        so_far = self.deadline.spent() - self.began
+        seconds = max(UNIT_SHARE * so_far, LEAST_UNIT_SECONDS)
         seconds = max(min(seconds, MOST_UNIT_SECONDS), subtree.seconds)
         seconds = min(seconds, max(until - self.deadline.spent(), 0.0))
         open_nodes = [
@@ -450,7 +467,8 @@ class ParallelSearch:
         ]
         pseudocosts = self.search.branching.pseudocosts
         path = self._path(subtree.place)
-        return WorkUnit(self.packed_problem, path, open_nodes, pseudocosts, seconds)
+        of_processor = self.deadline.of_processor
+        return WorkUnit(self.packed_problem, path, open_nodes, pseudocosts, seconds, of_processor)
 
     def _collect(self) -> Optional[ImprovedIncumbent]:
         """Waits up to POLL_SECONDS for a unit to end, and takes what ended.
@@ -487,8 +505,11 @@ class ParallelSearch:
             PoolFailed: Too many processes died with the subtree.
         """
         result = _result_of(subtree, future)
-        if result is None or result.improved is not None:
-            return None if result is None else result.improved
+        if result is None:
+            return None
+        self.deadline.count_elsewhere(result.seconds / max(self.pool.workers, 1))
+        if result.improved is not None:
+            return result.improved
         self.search.nodes += result.nodes
         self.search.branching.pseudocosts.add(result.learnt)
         kept = {

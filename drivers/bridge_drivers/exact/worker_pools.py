@@ -88,7 +88,8 @@ class WorkUnit(NamedTuple):
         open_nodes: Those in it that were worked partly, from its root on. What is proved of their
             siblings is replaced by a RemoteSubtree.
         pseudocosts: Of the whole search so far.
-        seconds: Of the wall, from when a process begins with it.
+        seconds: From when a process begins with it.
+        of_processor: They are of its processor time, not of the wall.
     """
 
     problem: bytes
@@ -96,6 +97,7 @@ class WorkUnit(NamedTuple):
     open_nodes: Sequence[OpenNode]
     pseudocosts: Pseudocosts
     seconds: float
+    of_processor: bool = False
 
 
 class UnitResult(NamedTuple):
@@ -109,6 +111,7 @@ class UnitResult(NamedTuple):
         nodes: How many nodes more the subtree has; below 0 where more fell away than came.
         improved: A better point, where one was found; then the unit is as it was before.
         why_not_closed: Why the node does not close where the search stands; empty where it may.
+        seconds: That the unit took, by its own clock.
     """
 
     proved: Optional[ProvedSubtree]
@@ -117,6 +120,7 @@ class UnitResult(NamedTuple):
     nodes: int
     improved: Optional[ImprovedIncumbent] = None
     why_not_closed: str = ""
+    seconds: float = 0.0
 
 
 # searches of the last problems of this process by their pickled problem, but for those at work
@@ -136,7 +140,8 @@ def work(unit: WorkUnit) -> UnitResult:
     search = _search_cache.pop(unit.problem, None)
     if search is None:
         search = pickle.loads(unit.problem).search(SearchDeadline())
-    search.deadline = SearchDeadline()
+    deadline = SearchDeadline(of_processor=unit.of_processor)
+    search.deadline = deadline
     search.until = unit.seconds
     search.nodes = 0
     strong_candidates = search.branching.strong_candidates
@@ -151,12 +156,14 @@ def work(unit: WorkUnit) -> UnitResult:
         pass
     learnt = search.branching.pseudocosts.less(unit.pseudocosts)
     if isinstance(found, ImprovedIncumbent):
-        return UnitResult(None, [], learnt, search.nodes, found)
+        return UnitResult(None, [], learnt, search.nodes, found, "", deadline.spent())
     while len(_search_cache) >= MOST_CACHED_SEARCHES:
         _search_cache.pop(next(iter(_search_cache)))
     _search_cache[unit.problem] = search
     open_nodes = search.node.open_nodes
-    return UnitResult(found, open_nodes, learnt, search.nodes, None, why_not_closed)
+    return UnitResult(
+        found, open_nodes, learnt, search.nodes, None, why_not_closed, deadline.spent()
+    )
 
 
 class PoolFailed(SearchEnded):

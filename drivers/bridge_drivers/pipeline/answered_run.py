@@ -17,6 +17,7 @@ from ..solvers.base import TIME_LIMIT, Solver, SolverAnswer, SolverStatus, limit
 from ..solvers.run import SolverRun
 from ..system.codes import Code
 from ..system.errors import (
+    FAULTS,
     BridgeError,
     NotDecimal,
     NotReturned,
@@ -26,6 +27,7 @@ from ..system.errors import (
     UnusableAnswer,
 )
 from ..system.errors import Interrupted
+from ..system.text import one_line, shortened
 from .answer import Answer
 from ..formats.sol import read_sol
 from .certification import AnswerCertifier, Returned, is_point
@@ -45,7 +47,6 @@ INTERRUPTED_WORDS = {
 NOT_CERTIFIED = "its values cannot be certified"  # with strict=1
 CONTRADICTED = "its own answer is contradicted by what was found, which no certificate can hold"
 # a search that ends by one of these proves nothing, and the answer stands as it is
-SEARCH_FAULTS = (ArithmeticError, AssertionError, LookupError, TypeError, ValueError)
 # what reading an answer raises where it is missing or in no known form
 ANSWER_FAULTS = (UnclearAnswer, NotDecimal, LookupError, ValueError, ArithmeticError)
 
@@ -430,10 +431,10 @@ class AnsweredRun:
             raise NotReturned(fault.text) from None
         except OSError as fault:
             return not_proved(f"{fault.filename}: {fault.strerror}")
-        except SEARCH_FAULTS as fault:
+        except FAULTS as fault:
             if self.settings.shows_faults:
                 raise
-            return not_proved(f"a fault of the driver: {fault!r}")
+            return not_proved(f"a fault of the driver: {shortened(one_line(repr(fault)))}")
 
 
 def has_point_of(sol: bytes, verdict: Evidence) -> bool:

@@ -129,6 +129,7 @@ class AnswerCertifier:
         self.is_interrupted = False
         self.is_out_of_time = False
         self.pool_note = ""
+        self._known: dict[str, float] = {}
         self.store = CertificateStore(
             bridge,
             model,
@@ -252,6 +253,7 @@ class AnswerCertifier:
         deadline = self._deadline(is_search=proves)
         judge = CertificateJudge(self.bridge, self.model, self.run.path("certificate"), deadline)
         pool = open_pool(settings.processes, settings.cluster) if proves else None
+        self._known = {}
         self.monitor.progress.begin("certificate", deadline.seconds)
         try:
             with self.monitor.timing("certify"):
@@ -336,7 +338,7 @@ class AnswerCertifier:
         if not proves:
             judge.deadline.restart()
         given = answer_by_place(answer)
-        if given.duals is not None:
+        if given.duals is not None and factors:
             duals = {row: factors.get(row, 1) * dual for row, dual in given.duals.items()}
             given = given._replace(duals=duals)
         with interrupts_to(judge.deadline.interrupt):
@@ -350,15 +352,27 @@ class AnswerCertifier:
                 options=options,
                 pool=pool,
             )
+        if not factors:
+            return evidence
         exported = {row: dual / factors.get(row, 1) for row, dual in evidence.duals.items()}
         return evidence._replace(duals=exported)
 
     def _tell(self, progress: SearchProgress) -> None:
-        """Tells the line of progress what the search is at: its numbers, else its step in words."""
-        if progress.numbers:
-            self.monitor.progress.tell_numbers(progress.numbers)
+        """Tells the line of progress what the search is at: its step, and what is known so far.
+
+        A bound that is told beside `cuts` is no claim yet: while cuts are made, that of before
+        stays.
+        """
+        found = dict(progress.numbers)
+        if "cuts" in found:
+            found.pop("bound", None)
+        elif found:
+            self._known.pop("cuts", None)
+        self._known.update(found)
+        if progress.step:
+            self.monitor.progress.tell_step(progress.step, self._known)
         else:
-            self.monitor.progress.tell(progress.step)
+            self.monitor.progress.tell_numbers(self._known)
 
     def from_answer_itself(self, judge: CertificateJudge, answer: Answer) -> Evidence:
         """What an answer proves by itself: its values and duals are the certificate.

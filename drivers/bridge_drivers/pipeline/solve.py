@@ -15,7 +15,7 @@ from dataclasses import dataclass, field
 from typing import Iterator, NamedTuple, Sequence
 
 from ..exact.evidence import NOT_PROVED
-from ..formats.file_kinds import model_kind_of_start
+from ..formats.file_kinds import kind_of_model
 from ..formats.source import Source
 from ..system.files import OutputFiles, new_folder_in, private_folder
 from ..system.signals import SIGNALS
@@ -198,7 +198,7 @@ class SolveRun:
             relax = self.settings.solver_settings.relax
             path = f"{self.source.stub}.{self.solver.name}.mps"
             text = self.solver.mps_text(program if relax else program.with_rounded_bounds())
-            files = OutputFiles([self.source.path], model_kind_of_start, overwrite=overwrite)
+            files = OutputFiles(self.source.reads, kind_of_model, overwrite=overwrite)
             files.write(path, text)
         title = self.solver.title
         told = f"{path} is written, and nothing was solved; {title} reads and solves it by"
@@ -264,7 +264,9 @@ class SolveRun:
         settings, program = self.settings, read_program.program
         asked = settings.solver_settings
         run = self.solver_run_class(program, asked, self.folder, solver_path, self.monitor)
+        run.stage = self.solver.name
         self.monitor.read_line = lambda line: self.solver.progress_of_line(line, program)
+        self.monitor.maximise = program.maximise
         if settings.keep_folder:
             run.write("model.mps", program.text)
         notes = [*self.source.notes, *read_program.notes, *program.notes]

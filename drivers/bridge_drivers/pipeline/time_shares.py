@@ -77,22 +77,25 @@ class TimeShares:
         """The share of the search for a certificate that begins now.
 
         It is what is left, less VERDICT_SHARE, and LEAST_SEARCH_SECONDS at least. Its verdicts have
-        ended with the run, or GRACE_SECONDS after the share if that is later.
+        ended with the run, or GRACE_SECONDS after the share if that is later. Where the run has no
+        limit, the search has CERTIFICATE_SECONDS of the processor, whatever else the machine does.
 
         Args:
             most_of_processor: A short search has at most so many seconds, and counts those of the
-                processor; None: it is a long one, and counts those of the wall.
+                processor; None: it is a long one, and counts those of the wall where there is a
+                limit.
         """
-        left = self.deadline.left()
-        share = CERTIFICATE_SECONDS
-        if self.has_limit():
-            share = max(left * (1 - VERDICT_SHARE), LEAST_SEARCH_SECONDS)
-        if most_of_processor is not None:
-            return SearchDeadline(min(most_of_processor, share), of_processor=True)
         if not self.has_limit():
-            return SearchDeadline(share)
+            most = CERTIFICATE_SECONDS if most_of_processor is None else most_of_processor
+            return SearchDeadline(min(most, CERTIFICATE_SECONDS), of_processor=True)
+        left = self.deadline.left()
+        share = max(left * (1 - VERDICT_SHARE), LEAST_SEARCH_SECONDS)
+        all_within = max(left, share + GRACE_SECONDS)
+        if most_of_processor is not None:
+            seconds = min(most_of_processor, share)
+            return SearchDeadline(seconds, of_processor=True, all_within=all_within)
         self.given["the certificate"] = share
-        return SearchDeadline(share, all_within=max(left, share + GRACE_SECONDS))
+        return SearchDeadline(share, all_within=all_within)
 
     def for_verdict(self) -> Deadline:
         """The time of a verdict on what is passed on: what is left, GRACE_SECONDS at least."""

@@ -36,7 +36,9 @@ BUILD_NOTES = (
     os.path.join(PACKAGE, "built.json"),  # of a package
 )  # where a note on a build stands
 LONGEST_TRIAL = 20  # seconds that a program called `bridge` has to say that it is the proved one
-OUTPUT_LIMITS = OutputLimits(memory_bytes=1 << 33)  # exported texts are long
+# a text is read back by the program, which takes 2^31 bytes; a verdict is a line
+TEXT_LIMITS = OutputLimits(memory_bytes=1 << 31, ends_beyond=True)
+VERDICT_LIMITS = OutputLimits(memory_bytes=1 << 16, ends_beyond=True)
 PIECE = 1 << 20  # bytes of a file that are read at once
 
 
@@ -116,8 +118,10 @@ def _programs_on_path(name: str) -> List[str]:
 
 
 def sha256_of_file(path: Optional[str]) -> Optional[str]:
-    """The SHA-256 of what stands at a path; None where it cannot be read."""
+    """The SHA-256 of a plain file; None where there is none that can be read."""
     digest = hashlib.sha256()
+    if not os.path.isfile(path or ""):  # a device may have no end
+        return None
     try:
         with open(path or "", "rb") as file:
             for piece in iter(lambda: file.read(PIECE), b""):
@@ -174,21 +178,28 @@ class Bridge:
         self.deadline = Deadline()
         self._links: Optional[tempfile.TemporaryDirectory[str]] = None
 
-    def call(self, *words: str, deadline: Optional[Deadline] = None) -> Reply:
+    def call(
+        self,
+        *words: str,
+        deadline: Optional[Deadline] = None,
+        limits: OutputLimits = TEXT_LIMITS,
+    ) -> Reply:
         """One call, however it ends.
 
         Args:
             words: The command and its files.
             deadline: When the program is ended; None: by the deadline of all calls.
+            limits: Of what it may write.
 
         Raises:
             NotStarted: The program cannot be run.
             DeadlineExceeded: It was ended at the deadline.
+            ProgramFailed: It wrote more than the limits, and was ended.
         """
         argv = self.argv + [self._reachable(word) for word in words]
         self.note(argv)
         try:
-            ended = run(argv, deadline or self.deadline, OUTPUT_LIMITS)
+            ended = run(argv, deadline or self.deadline, limits)
         except OSError as fault:
             raise NotStarted(argv[0], str(fault.strerror)) from None
         if ended.is_late:
@@ -295,7 +306,7 @@ class Bridge:
         self, command: Command, model: str, other: str, deadline: Optional[Deadline]
     ) -> Reply:
         """A reply with one of the two statuses that go with a verdict."""
-        reply = self.call(command.value, model, other, deadline=deadline)
+        reply = self.call(command.value, model, other, deadline=deadline, limits=VERDICT_LIMITS)
         if reply.status not in (ExitStatus.DONE, ExitStatus.FAILED):
             raise self.refusal((command.value, model, other), reply)
         return reply

@@ -53,7 +53,7 @@ class RunObserver:
         """Something is worked at from now on.
 
         Args:
-            stage: The name of the executable; "" when it ends.
+            stage: The name of the solver; "" when it ends.
             limit: Its limit of time in seconds; 0 for none.
         """
 
@@ -74,6 +74,8 @@ class SolverRun:
         folder: The absolute path of a folder for its files.
         executable: The absolute path of the solver.
         observer: Is told what goes on.
+        stage: What the observer is told is at work; the name of the executable where nothing else
+            is set.
         killed: When the process is killed that starts next.
         is_retry: It is asked once more, in another way.
         is_interrupted: It was told to end before it had ended by itself.
@@ -100,6 +102,7 @@ class SolverRun:
         self.folder = folder
         self.executable = executable
         self.observer = observer or RunObserver()
+        self.stage = os.path.basename(executable)
         self.killed = Deadline()
         self.is_retry = False
         self.is_interrupted = False
@@ -162,7 +165,7 @@ class SolverRun:
 
         The first interrupt of this process is sent to the solver, which may end with an answer.
         """
-        self.observer.stage_begins(os.path.basename(self.executable), self.settings.time_limit)
+        self.observer.stage_begins(self.stage, self.settings.time_limit)
         try:
             ended = run(
                 argv,
@@ -172,6 +175,7 @@ class SolverRun:
                 streams=Streams.MERGED,
                 log=self.path(LOG_NAME),
                 on_interrupt=self._note_interrupt,
+                by_lines=True,
             )
         finally:  # also where a signal ends the driver
             self.observer.stage_begins("", 0.0)

@@ -4,6 +4,7 @@ from __future__ import annotations
 
 import os
 import signal
+import time
 from fractions import Fraction
 from typing import NoReturn, Sequence
 from unittest import mock
@@ -136,7 +137,8 @@ def test_the_first_that_is_proved() -> None:
     store.add_point([Fraction(0)] * 3)
     store.add_point([Fraction(1), Fraction(1), Fraction(0)])
     found = first_proved(iter([not_proved("x"), *store.claims()]))
-    assert found.line == "feasible 17" and found.point == [1, 1, 0]
+    assert found.line == "feasible 17"
+    assert found.point == [Fraction(1), Fraction(1), Fraction(0)]
     assert first_proved([]).line == "not proved: no certificate was found"
     assert AnswerByPlace([Fraction(1, 2)]).doubles() == [0.5]
 
@@ -164,7 +166,34 @@ def test_an_answer_beside_a_point(off: int, proves: bool) -> None:
     answer = AnswerByPlace([9.0, 2.0, float(best + off)])
     p, options = program(columns, rows, "max"), SearchOptions(proves=proves)
     found = certified(p, AnswerClaim.POINT, answer=answer, options=options)
-    assert found.point == [9, 2, best] and found.claim in ("optimal", "within", "feasible")
+    assert found.point == [Fraction(9), Fraction(2), Fraction(best)] and found.claim in (
+        "optimal",
+        "within",
+        "feasible",
+    )
+
+
+@pytest.mark.parametrize("load", [1.0, 25.0])
+def test_a_busy_machine(load: float, monkeypatch: pytest.MonkeyPatch) -> None:
+    """A short search of many terms ends the same where the wall's clock goes 25 times as fast."""
+    wall, began = time.monotonic(), time.process_time()
+    monkeypatch.setattr(time, "monotonic", lambda: wall + load * (time.process_time() - began))
+    rows = 1000
+    columns = [Column(0, 1, is_integer=True, cost=1 + j % 7) for j in range(10 * rows)]
+    p = program(columns, [Row(1, None, {10 * i + k: 1 for k in range(10)}) for i in range(rows)])
+    values = [
+        float(j % 10 == min(range(10), key=lambda k: (j - j % 10 + k) % 7)) for j in range(p.n)
+    ]
+    deadline = SearchDeadline(1.0, of_processor=True)
+    found = certify(
+        p,
+        Judge(p),
+        claim=AnswerClaim.POINT,
+        answer=AnswerByPlace(values),
+        deadline=deadline,
+        options=SearchOptions(proves=False),
+    )
+    assert found.claim == "optimal"
 
 
 def test_coins_that_make_no_sum() -> None:

@@ -67,13 +67,13 @@ def test_an_interrupt_ends_a_solve(monkeypatch: pytest.MonkeyPatch) -> None:
     """Behind the slice that runs, also where there is no limit of time."""
     monkeypatch.setattr(search_deadline, "INTERRUPT_SECONDS", 0.0)
     clp, deadline = relaxation(two_rows()), SearchDeadline()
-    clp.lib = InterruptedLibrary(clp, deadline)  # type: ignore[assignment]
+    interrupted = InterruptedLibrary(clp, deadline)
+    monkeypatch.setattr(clp, "lib", interrupted)
     try:
         assert clp.solve() is LpStatus.OTHER
-        assert clp.lib.solves == 1
+        assert interrupted.solves == 1
     finally:
         limit_all_work(Deadline())
-    clp.lib = clp.lib.library
 
 
 def test_bounds_that_change() -> None:

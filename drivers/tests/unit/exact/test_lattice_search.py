@@ -141,6 +141,25 @@ def test_a_frobenius_number_has_no_sum() -> None:
         assert (found.point is not None) == is_sum
 
 
+@given(
+    st.sampled_from([10**19, 10**20, 3 * 10**21 + 1]),
+    st.lists(st.integers(1, 9), min_size=3, max_size=3),
+    st.integers(0, 30),
+)
+def test_wide_rows(size: int, numbers: List[int], rest: int) -> None:
+    """A row with a coefficient beside which doubles lose the other one."""
+    a, cost, most = numbers
+    p = program(
+        [Column(0, 5, True, cost), Column(0, 6, True, 1)],
+        [Row(None, most % 5 * size + rest, {0: size, 1: a})],
+        "max",
+    )
+    found = lattice_optimum(p, goes_on)
+    assert found is not None and found.point is not None
+    assert p.sign * p.value(found.point) == optimum_of(p)
+    assert judged(p, found).startswith("optimal ")
+
+
 def test_what_is_left_alone() -> None:
     """Programs without equations of integer columns, without a solution, and large ones."""
     free = Column(None, None, True)

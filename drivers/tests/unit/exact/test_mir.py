@@ -5,6 +5,7 @@ from __future__ import annotations
 import itertools
 from fractions import Fraction
 from math import ceil, floor
+from typing import Dict, List, Tuple
 
 from hypothesis import HealthCheck, assume, given, settings
 from hypothesis import strategies as st
@@ -17,6 +18,7 @@ from bridge_drivers.exact.mir_separation import (
     mir_coefficient,
     variable_bounds,
 )
+from bridge_drivers.model.integer_form import IntegerProgram
 from programs import Column, Row, program
 
 
@@ -58,8 +60,11 @@ HALVES = st.lists(st.integers(-18, 18), min_size=4, max_size=4)
 FACTORS = st.sampled_from((-0.5, 1 / 3, 1.0, 2.0, 0.7))
 
 
+Case = Tuple[IntegerProgram, List[int], List[float], Dict[int, float]]
+
+
 @st.composite
-def mixed_programs(draw: st.DrawFn):
+def mixed_programs(draw: st.DrawFn) -> Case:
     """One continuous and three integer columns, rows with decimals, and a point to cut off."""
     uppers = draw(st.lists(st.integers(1, 3), min_size=4, max_size=4))
     columns = [Column(0, upper, is_integer=j > 0) for j, upper in enumerate(uppers)]
@@ -78,7 +83,7 @@ def mixed_programs(draw: st.DrawFn):
     max_examples=30, suppress_health_check=[HealthCheck.filter_too_much, HealthCheck.too_slow]
 )
 @given(mixed_programs())
-def test_cuts_hold_and_are_proved(case) -> None:
+def test_cuts_hold_and_are_proved(case: Case) -> None:
     """Of any combination of the rows, at any point that is to be cut off."""
     p, uppers, x, combination = case
     substitutions = Substitutions(p, x)

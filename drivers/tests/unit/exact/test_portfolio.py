@@ -23,7 +23,7 @@ from bridge_drivers.exact.search import (
     NodeNotClosed,
     no_point,
 )
-from bridge_drivers.exact.search_deadline import SearchDeadline
+from bridge_drivers.exact.search_deadline import SearchDeadline, SearchProgress
 from bridge_drivers.exact.strategies import MIR, PLAIN, Preparation, Strategy
 from bridge_drivers.exact.tree import Tree
 from bridge_drivers.model.integer_form import IntegerProgram, Point
@@ -194,7 +194,8 @@ def test_a_node_that_never_closes(monkeypatch: pytest.MonkeyPatch) -> None:
 
     monkeypatch.setattr(BranchAndBound, "solve_node", failing)
     portfolio = Portfolio(LOTS, Fraction(143, 10), no_point, SearchDeadline(60.0))
-    assert portfolio.run_plain() is None and portfolio.best is portfolio.bound is None
+    assert portfolio.run_plain() is None
+    assert portfolio.best is None and portfolio.bound is None
     assert portfolio.strategies[0].has_ended
     assert portfolio.reports() == ["plain: a leaf does not close"]
 
@@ -306,3 +307,41 @@ def test_a_bound_that_does_not_close_is_lowered(monkeypatch: pytest.MonkeyPatch)
     found = portfolio.prove_bound()
     assert found is not None and is_bound(LOTS, found.value, found.tree.lines())
     assert len(tried) > 1 and sorted(tried, reverse=True) == tried
+
+
+@NEEDS_CLP
+@pytest.mark.parametrize("kind", [KNAPSACK, COVER])
+def test_progress_never_goes_back(kind: IntegerProgram, monkeypatch: pytest.MonkeyPatch) -> None:
+    """Whose turn it is, is not seen: nodes and what is closed grow, and a forecast is a time."""
+    monkeypatch.setattr(SearchDeadline, "is_progress_due", lambda deadline: True)
+    deadline = SearchDeadline(60.0)
+    told: "list[SearchProgress]" = []
+    deadline.on_progress = told.append
+    portfolio = Portfolio(kind, optimum_of(kind), no_point, deadline)
+    portfolio.race()
+    assert portfolio.best is not None
+    states = [progress.numbers for progress in told if "closed" in progress.numbers]
+    for before, after in zip(states, states[1:]):
+        assert before["nodes"] <= after["nodes"] and before["closed"] <= after["closed"]
+    for state in states:
+        assert 0 <= state["closed"] <= 1 and state["open"] >= 0
+        assert ("left" in state) == (state["closed"] > 0)
+        assert state.get("left", 0.0) >= 0
+
+
+def test_progress_is_that_of_all_strategies() -> None:
+    """Nodes of both, and the forecast of the one that is further: 0.2 closed in 5 s leave 20 s."""
+    portfolio = after_ten_seconds()
+    told: "list[SearchProgress]" = []
+    portfolio.deadline.on_progress = told.append
+    for nodes, share, bound, spent in ((7, 0.1, -20.0, 8.0), (30, 0.2, -19.0, 5.0)):
+        search = SimpleNamespace(
+            search=SimpleNamespace(nodes=nodes),
+            proved_share=lambda share=share: share,
+            open_count=lambda nodes=nodes: nodes // 2,
+            dual_bound=bound,
+        )
+        portfolio.strategies.append(strategy_with(search, spent=spent))
+    portfolio.tell_progress()
+    known = {"nodes": 37.0, "open": 15.0, "closed": 0.2, "bound": 19.0, "left": 20.0}
+    assert [dict(progress.numbers) for progress in told] == [pytest.approx(known)]
