@@ -9,7 +9,6 @@ import os
 import re
 import subprocess
 import sys
-import time
 from pathlib import Path
 from typing import Iterator, Mapping, NamedTuple, Sequence
 
@@ -180,14 +179,9 @@ class Project:
     def pages(self) -> Iterator[File]:
         """The man pages of the commands, with their words filled in."""
         drivers = [name for name, entry in self.scripts.items() if entry == DRIVER]
-        words = {
-            "VERSION": self.version,
-            "DRIVERS": ", ".join(drivers).replace("-", "\\-"),
-            "DATE": time.strftime("%Y-%m-%d", time.gmtime(self.epoch)),
-            **manual.parts(),
-        }
-        for name in OWN_PAGES & {f"{script}.1" for script in self.scripts}:
-            yield File(name, filled(read("packaging", "man", name), words))
+        for name, data in manual.own_pages(drivers, self.version, self.epoch).items():
+            if name.removesuffix(".1") in self.scripts:
+                yield File(name, data)
 
     def linked_pages(self) -> Iterator[str]:
         """The commands whose page is that of the drivers."""

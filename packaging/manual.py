@@ -2,7 +2,9 @@
 
 from __future__ import annotations
 
-from typing import Iterable
+import time
+from pathlib import Path
+from typing import Iterable, Sequence
 
 from bridge_drivers.commands import forms
 from bridge_drivers.commands.completion import DASHED_OPTIONS
@@ -14,6 +16,8 @@ from bridge_drivers.commands.options import (
     own_options,
 )
 from bridge_drivers.solvers import SOLVERS
+
+TEMPLATES = Path(__file__).resolve().parent / "man"  # pages with marks `@WORD@`
 
 
 def roff(text: str) -> str:
@@ -66,3 +70,26 @@ def parts() -> dict[str, str]:
         "CERTIFY": of_options(CERTIFY_OPTIONS),
         "DASHED": "\n".join(item(word, text) for word, text in DASHED_OPTIONS.items()),
     }
+
+
+def own_pages(drivers: Sequence[str], version: str, epoch: int) -> dict[str, bytes]:
+    """The man pages that have a text of their own, by their names, with their marks filled in.
+
+    Args:
+        drivers: The commands that share the page of bridge-cbc.
+        version: The version that the pages name.
+        epoch: The time that they name, in seconds since 1970.
+    """
+    words = {
+        "VERSION": version,
+        "DRIVERS": ", ".join(drivers).replace("-", "\\-"),
+        "DATE": time.strftime("%Y-%m-%d", time.gmtime(epoch)),
+        **parts(),
+    }
+    found = {}
+    for path in sorted(TEMPLATES.iterdir()):
+        text = path.read_text(encoding="ascii")
+        for word, value in words.items():
+            text = text.replace(f"@{word}@", value)
+        found[path.name] = text.encode()
+    return found

@@ -75,7 +75,7 @@ class BridgeCmd(pulp.LpSolver_CMD):
         msg: The message is printed.
         options: Options of the driver, each a word `name=value`; they hold against the other
             arguments.
-        timeLimit: Seconds of the solver, and again of a search; None for no limit of the solver.
+        timeLimit: Seconds of the whole run; None for no limit, but 60 seconds of a search.
         gapRel: The relative gap at which the search stops.
         threads: Of the solver's search.
         keepFiles: The MPS file and what is told, as JSON, stay in PuLP's folder.

@@ -29,10 +29,18 @@ from .evidence import (
 from .integer_certifier import IntegerCertifier
 from .linear_certifier import LinearCertifier
 from .refutations import Refuter
-from .search_deadline import KEPT_SECONDS, SearchDeadline, SearchProgress
+from .search_deadline import SearchDeadline, SearchProgress
 from .task import CertificationTask, SearchOptions
 from .work_limit import limit_work
 from .worker_pools import WorkerPool
+
+BEYOND_DOUBLES = "a number of the model is beyond the range of doubles, by which is searched"
+DENIALS_OF_A_POINT = (AnswerClaim.INFEASIBLE,)
+DENIALS_OF_AN_OPTIMUM = (
+    AnswerClaim.INFEASIBLE,
+    AnswerClaim.UNBOUNDED,
+    AnswerClaim.INFEASIBLE_OR_UNBOUNDED,
+)
 
 
 def certify(
@@ -104,17 +112,44 @@ class Certifier:
 
         Where the time is over, what is known by then is claimed instead, with `may_be_unbounded`.
         Where CLP is not installed or a search ended, that is the reason why nothing is proved.
+
+        A claim without a point is contradicted by a known point or optimum, though it is too wide
+        for a certificate.
         """
+        found = self._certified(claim)
+        if found.claim not in ("", "bound"):
+            return found
+        knows_optimum = self.store.is_optimum_known
+        is_known = claim in DENIALS_OF_A_POINT and self._has_point()
+        is_contradicted = is_known or claim in DENIALS_OF_AN_OPTIMUM and knows_optimum
+        return found._replace(
+            contradicts_answer=found.contradicts_answer or is_contradicted,
+            is_optimum_known=knows_optimum,
+        )
+
+    def _certified(self, claim: AnswerClaim) -> Evidence:
+        """As `certify`, without what is known beside the evidence."""
         try:
-            limit_all_work(Deadline(self.task.deadline.left_to_find()))
+            limit_all_work(self.task.deadline.to_find())
             return self._tried(claim)
         except (TimeOver, DeadlineExceeded):
             found = self._with_optimality_in_doubles(first_proved(self._known()))
             return found._replace(may_be_unbounded=self.refuter.may_be_unbounded())
         except (ClpNotInstalled, SearchEnded) as ended:
             return not_proved(ended)
+        except OverflowError:
+            return self._known_or(BEYOND_DOUBLES)
         finally:
             limit_all_work(Deadline())
+
+    def _known_or(self, reason: str) -> Evidence:
+        """What is proved by now of what is known, else that nothing is, for a reason in words."""
+        limit_all_work(Deadline(KEPT_SECONDS))
+        try:
+            found = first_proved(self._known())
+        except (OverflowError, TimeOver, DeadlineExceeded):
+            return not_proved(reason)
+        return found if found.is_proved else not_proved(reason)
 
     def certify_point(self) -> Evidence:
         """Where the solver has a point: that it is optimal, else a point and a bound.
@@ -141,7 +176,9 @@ class Certifier:
         """
         tried = [self._without_answer()]
         if not self.task.is_linear and not self.task.options.is_relaxation:
-            refutations = self.refuter.rounding_refutations()
+            refutations = itertools.chain(
+                self.refuter.rounding_refutations(), self.refuter.by_lattice()
+            )
             proves = self.task.options.proves
             tried = [refutations, self.refute(), *tried] if proves else [refutations, *tried]
         return first_proved(itertools.chain(*tried))
@@ -230,7 +267,7 @@ class Certifier:
         """
         limit_all_work(Deadline())
         yield from self.integer.claim_known_tree()
-        limit_all_work(Deadline(self.task.deadline.left_of_all() - KEPT_SECONDS))
+        limit_all_work(self.task.deadline.to_find_at_last())
         with contextlib.suppress(TimeOver, SearchEnded):
             self._add_bound_at_last()
         limit_all_work(Deadline())

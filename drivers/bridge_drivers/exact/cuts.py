@@ -160,12 +160,16 @@ class RootCutLoop:
             deadline: Is asked at each cut, and told the progress.
         """
         self.program = program
-        self.objective = objective
         self.deadline = deadline
+        self.dual_bound = -math.inf
+        self.set_objective(objective)
+        self.most_stalled = MOST_STALLED_ROUNDS if any(program.costs) else MOST_ROUNDS
+
+    def set_objective(self, objective: ObjectiveCutoff) -> None:
+        """Goes on for another value, which is better: cuts that are proved hold for it too."""
+        self.objective = objective
         value = objective.cutoff.value
         self.cutoff = math.inf if value is None else float(value)
-        self.dual_bound = -math.inf
-        self.most_stalled = MOST_STALLED_ROUNDS if any(program.costs) else MOST_ROUNDS
 
     def solve_relaxation(self, cuts: Sequence[ProvedCut]) -> Optional[Relaxed]:
         """The relaxation under these cuts, solved; None where it has no optimum.

@@ -31,7 +31,7 @@ from ..model.integer_form import Box, IntegerProgram, Point
 from .certificate import RowNumbering, claim_lines, leaf_lines
 from .clp import Basis
 from .dual_bound import Multipliers, bit_width, dual_bound, fits_certificate
-from .portfolio import TreeText
+from .strategies import TreeText
 from .work_limit import check_work
 
 NOT_PROVED = "not proved: "
@@ -99,9 +99,11 @@ class Evidence(NamedTuple):
         value: The objective of the point in its own sense.
         duals: By row, rates of change in that sense, where one leaf has them; else empty.
         note: Why it is not `optimal`, where that is known.
-        contradicts_answer: No point is found that has the answer's integer columns.
+        contradicts_answer: No point is found that has the answer's integer columns; or the answer
+            said that there is no point, or no best one, and one is known.
         is_optimal_in_doubles: The answer's duals, rounded to the safe side, bound its objective.
         may_be_unbounded: No bound is known, and a ray was not looked for to the end.
+        is_optimum_known: An exact optimum was found that no certificate holds.
     """
 
     line: str
@@ -114,6 +116,7 @@ class Evidence(NamedTuple):
     contradicts_answer: bool = False
     is_optimal_in_doubles: bool = False
     may_be_unbounded: bool = False
+    is_optimum_known: bool = False
 
     @property
     def is_proved(self) -> bool:
@@ -184,6 +187,7 @@ class EvidenceStore:
         bound: The closest that is known.
         note: Why points and bound are apart, as it is told with what is proved. Once it is set, no
             more bases are tried for the exact optimum.
+        is_optimum_known: An exact optimum was found, which a certificate need not be able to hold.
     """
 
     def __init__(
@@ -197,6 +201,7 @@ class EvidenceStore:
         self.points: List[Point] = []
         self.bound: Optional[BoundEvidence] = None
         self.note = ""
+        self.is_optimum_known = False
 
     @property
     def point(self) -> Optional[Point]:
@@ -315,6 +320,7 @@ class EvidenceStore:
         each case: to that, or to what the judge's line says behind its first colon, as its reason
         against `optimal`.
         """
+        self.is_optimum_known = True
         duals = (Fraction(y, leaf.denominator) for y in leaf.numerators.values())
         bits = bit_width([*point, *duals])
         self.note = too_wide_note(f"{bits} bits")

@@ -142,6 +142,22 @@ class Fathomer:
                     return self._proved(proof)
         return None
 
+    def by_fractions(
+        self, multipliers: Mapping[int, Fraction], kind: MultiplierKind
+    ) -> Optional[ProvedSubtree]:
+        """A leaf by exact multipliers, or by roundings of them, which are shorter.
+
+        Asked for where the node was solved exactly.
+
+        Args:
+            multipliers: By row, minimised.
+        """
+        doubles = {row: float(v) for row, v in multipliers.items()}
+        proof = self.prover.prove_from_doubles(doubles, kind, self.node.box)
+        if proof is None:
+            proof = self.prover.prove_from_fractions(multipliers, kind, self.node.box)
+        return None if proof is None else self._proved(proof)
+
     def by_phase_one(self, least: float = LEAST_INFEASIBILITY) -> Optional[ProvedSubtree]:
         """A leaf by the duals of phase one, which minimises by how much rows are violated.
 

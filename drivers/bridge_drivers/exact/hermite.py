@@ -160,7 +160,7 @@ def hermite_refutation(program: IntegerProgram) -> Optional[IntegerRefutation]:
         (which Farkas multipliers show), are more than MOST_EQUATIONS, or bring in numbers beyond
         LARGEST_NUMBER.
     """
-    equations = _integer_equations(program)
+    equations = integer_equations(program)
     if not equations or len(equations) > MOST_EQUATIONS:
         return None
     found = fractional_unknown(_by_column(equations), [equation.side for equation in equations])
@@ -172,7 +172,7 @@ def hermite_refutation(program: IntegerProgram) -> Optional[IntegerRefutation]:
     return IntegerRefutation(form, floor(value), used, used) if form else None
 
 
-class _Equation(NamedTuple):
+class Equation(NamedTuple):
     """A row that is an equation of integer columns, times a factor.
 
     Attributes:
@@ -188,7 +188,7 @@ class _Equation(NamedTuple):
     side: Fraction
 
 
-def _integer_equations(program: IntegerProgram) -> List[_Equation]:
+def integer_equations(program: IntegerProgram) -> List[Equation]:
     """The program's rows whose two bounds are equal and whose columns are all integer."""
     found = []
     scale = program.row_scale
@@ -199,12 +199,12 @@ def _integer_equations(program: IntegerProgram) -> List[_Equation]:
         factor = scale // gcd(scale, *(a for _, a in row))
         coefficients = {j: a * factor // scale for j, a in row}
         found.append(
-            _Equation(i, factor, coefficients, Fraction(side * factor, program.bound_scale))
+            Equation(i, factor, coefficients, Fraction(side * factor, program.bound_scale))
         )
     return found
 
 
-def _by_column(equations: Sequence[_Equation]) -> Columns:
+def _by_column(equations: Sequence[Equation]) -> Columns:
     """The matrix of the equations: a list for each column that one of them has, in the columns'
     order, with its coefficient in each equation."""
     columns = sorted({j for equation in equations for j in equation.coefficients})
@@ -212,7 +212,7 @@ def _by_column(equations: Sequence[_Equation]) -> Columns:
 
 
 def _combination(
-    equations: Sequence[_Equation], multipliers: Mapping[int, Fraction]
+    equations: Sequence[Equation], multipliers: Mapping[int, Fraction]
 ) -> Dict[int, int]:
     """The sum of equations under multipliers that make its coefficients whole.
 

@@ -6,9 +6,10 @@ tried is yielded as evidence, proved or not, of which the caller takes the first
 
 from __future__ import annotations
 
+import contextlib
 import itertools
 from fractions import Fraction
-from typing import Iterator, List, Optional, Sequence
+from typing import Iterator, Optional, Sequence
 
 from .short_duals import NO_MULTIPLIERS, box_bound, short_duals
 from ..model.integer_form import Box, Point
@@ -26,7 +27,6 @@ from .task import CertificationTask
 
 NO_EXACT_POINT = "no exact point has the answer's whole variables"
 ROUNDING = Fraction(1, 10**12)  # of the largest term of a row: as much may be rounding
-MOST_IMPROVEMENTS = 100  # points that a search may find one after the other
 REPAIR_NODES = 200  # of a search beside an answer
 REPAIR_SHARE = 0.25  # of the seconds that are left, for such a search
 
@@ -38,10 +38,8 @@ class IntegerCertifier:
         store: Points and bounds that are known, which all that is tried here adds to.
         refuter: Of the same program: shows that it has no point, or no bound.
         linear: Of the same program: adds bounds of its relaxation to the store.
-        incumbent: The point whose value the last portfolio is for; None before the first.
+        incumbent: The point whose value the portfolio is for; None before there is one.
         portfolio: That portfolio.
-        previous_portfolio: Of those before it, which were for worse values: the one that had the
-            greatest dual bound.
         is_answer_contradicted: No point has the answer's integer columns: they miss rows or bounds
             by more than rounding, or CLP finds no values for the other columns.
     """
@@ -54,7 +52,6 @@ class IntegerCertifier:
         self.linear = linear
         self.incumbent: Optional[Point] = None
         self.portfolio: Optional[Portfolio] = None
-        self.previous_portfolio: Optional[Portfolio] = None
         self.is_answer_contradicted = False
 
     def certify_answer(self, x: Sequence[Number]) -> Evidence:
@@ -82,8 +79,8 @@ class IntegerCertifier:
     def certify_from_point(self, point: Point) -> Iterator[Evidence]:
         """What is proved from a feasible point, the strongest first.
 
-        That is `unbounded` by a ray; `optimal` where bounds of columns alone show it, or by a tree
-        at the best point that the searches find; what the relaxation proves in fractions; the
+        That is `unbounded` by a ray; `optimal` where bounds of columns alone show it, by a search
+        over the lattice of a small program's equations, or by a tree at the best point that the searches find; what the relaxation proves in fractions; the
         claims of the points and the bound in the store. At last it says why there is no more. Adds
         the point, and better ones, to the store, and sets what `_search_from` sets.
         """
@@ -92,6 +89,7 @@ class IntegerCertifier:
         yield from self.refuter.ray_of_point(store.point or self.incumbent)
         if box_bound(program) == program.value(point):  # bounds of columns alone say it
             yield store.claim_of_leaf("optimal", NO_MULTIPLIERS, point)._replace(duals={})
+        yield from self.refuter.by_lattice()
         portfolio = self._search_from(point)
         point = self.incumbent or point
         if portfolio.best is not None:
@@ -166,54 +164,44 @@ class IntegerCertifier:
             self.store.add_leaf(proof.multipliers, is_exact=True)
 
     def _search_from(self, point: Point) -> Portfolio:
-        """Runs a portfolio at the point's value, minimised, then at that of each better one found.
+        """Runs a portfolio at the point's value, minimised, and at that of each better one found.
 
-        Sets `incumbent`, `portfolio` and `previous_portfolio`, and tells the deadline the incumbent
-        in the file's sense. With `proves` the portfolio is a race, else the plain search alone.
+        Sets `portfolio`, and what `_take_incumbent` sets. With `proves` the portfolio is a race,
+        else the plain search alone.
 
         Returns:
-            The portfolio that was run last, whose `best` is None where it found no tree: where the
-            time was over, CLP is not installed, or better points did not end within
-            MOST_IMPROVEMENTS.
+            The portfolio, whose `best` is None where it found no tree: where the time was over, a
+            node did not close, or CLP is not installed.
         """
-        for _ in range(MOST_IMPROVEMENTS):
-            portfolio = self.task.portfolio(self.program, self.program.value(point))
-            self.store.add_point(point)
-            self.incumbent, self.portfolio = point, portfolio
-            best = self.store.point
-            if best is not None:
-                value = self.program.sign * self.program.value(best)
-                self.task.deadline.incumbent = float(value)
-            try:
-                is_race = self.task.options.proves
-                improved = portfolio.race() if is_race else portfolio.run_plain()
-            except ClpNotInstalled:
-                return portfolio
-            if improved is None:
-                return portfolio
-            point = improved.point
-            known = [p for p in (self.previous_portfolio, portfolio) if p is not None]
-            self.previous_portfolio = max(known, key=lambda p: p.dual_bound)
-        self.store.add_point(point)
-        self.incumbent = self.store.point or self.incumbent
+        portfolio = self.task.portfolio(self.program, self.program.value(point))
+        portfolio.on_improved = self._take_incumbent
+        self.portfolio = portfolio
+        self._take_incumbent(point)
+        with contextlib.suppress(ClpNotInstalled):
+            if self.task.options.proves:
+                portfolio.race()
+            else:
+                portfolio.run_plain()
         return portfolio
 
-    def _add_searched_bound(self) -> None:
-        """Adds the bound that a stopped search proves to the store, whatever value it was for.
+    def _take_incumbent(self, point: Point) -> None:
+        """Adds a point to the store, makes it `incumbent`, and tells the deadline the best value in
+        the file's sense."""
+        self.store.add_point(point)
+        self.incumbent = point
+        best = self.store.point
+        if best is not None:
+            self.task.deadline.incumbent = float(self.program.sign * self.program.value(best))
 
-        The portfolio with the greater dual bound in doubles comes first, and the first that proves
-        one will do. Its search cannot go on.
-        """
-        known: List[Portfolio] = [
-            p for p in (self.portfolio, self.previous_portfolio) if p is not None
-        ]
-        for portfolio in sorted(known, key=lambda p: -p.dual_bound):
-            reports = "; ".join(portfolio.reports())
-            found = portfolio.prove_bound()
-            if found is not None:
-                bound = BoundEvidence(found.value, found.tree.lines, reports, {}, is_tree=True)
-                self.store.add_bound(bound)
-                return
+    def _add_searched_bound(self) -> None:
+        """Adds the bound that a stopped search proves to the store. The search cannot go on."""
+        if self.portfolio is None:
+            return
+        reports = "; ".join(self.portfolio.reports())
+        found = self.portfolio.prove_bound()
+        if found is not None:
+            bound = BoundEvidence(found.value, found.tree.lines, reports, {}, is_tree=True)
+            self.store.add_bound(bound)
 
     def _without_exact_point(self, x: Sequence[Number], violation: Fraction) -> Evidence:
         """Where no exact point has the answer's integer columns: a refutation, or what is found.

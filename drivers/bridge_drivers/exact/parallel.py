@@ -15,18 +15,17 @@ from __future__ import annotations
 
 import math
 import pickle
-import time
 import weakref
 from concurrent.futures import FIRST_COMPLETED, Future, wait
 from dataclasses import dataclass
 from functools import cached_property
-from typing import Callable, Dict, List, Optional, Union
+from typing import Callable, Dict, Iterator, List, Optional, Union
 
 from .search_deadline import SearchDeadline
 from ..system.errors import SearchEnded, SearchPaused
 from .fathoming import Cutoff
 from .node import Branch, OpenNode, ProvedSubtree, join, least_open_bound
-from .search import MOST_NODES, ExactPoint, ImprovedIncumbent
+from .search import MOST_NODES, ExactPoint, ImprovedIncumbent, NodeNotClosed
 from .tree import RemoteSubtree, Tree, node_count, with_remote
 from .worker_pools import PoolFailed, SearchProblem, UnitResult, WorkerPool, WorkUnit
 
@@ -54,6 +53,7 @@ class Subtree:
         faults: Processes that died with it in a row.
         is_dropped: Whether nothing rests on it any more, so that what comes back of it is not
             taken.
+        why_not_closed: Of one that was set aside, why its node does not close; else empty.
     """
 
     place: str
@@ -62,6 +62,7 @@ class Subtree:
     seconds: float = 0.0
     faults: int = 0
     is_dropped: bool = False
+    why_not_closed: str = ""
 
     def dual_bound(self) -> float:
         """No point in it is better than this, minimised, as far as its relaxations say."""
@@ -73,14 +74,18 @@ class ParallelSearch:
 
     Attributes:
         search: What this process works; it also closes what is left for a bound. Its `nodes` count
-            the whole tree so far, with proved subtrees that fell away when others were joined.
+            the whole tree so far, without what fell away.
         branches: By place, the branching nodes between the root and the subtrees; the direction of
             each counts nothing.
         proved: By place, subtrees that are proved; all of the tree is at "".
         waiting: Subtrees that nobody works; the last is worked next.
+        set_aside: Subtrees whose first node was neither closed nor branched on, for the cutoff of
+            now.
         running: Those that the pool works; none between two calls of `resume`.
-        reports_progress: Whether the deadline is told of it.
-        began: On the wall's clock, in seconds.
+        reports_progress: Whether its progress is told.
+        on_progress: Tells it, in place of `tell_progress`: a portfolio tells that of all its
+            searches together.
+        began: The second of the deadline.
     """
 
     def __init__(
@@ -104,11 +109,13 @@ class ParallelSearch:
         this: ParallelSearch = weakref.proxy(self)  # so that CLP's memory is free with the last use
         self.search.on_node = lambda: this.report_progress()
         self.reports_progress = True
+        self.on_progress: Optional[Callable[[], None]] = None
         self.running: Dict[Future[UnitResult], Subtree] = {}
         self.waiting = [Subtree("", [])]
+        self.set_aside: List[Subtree] = []
         self.branches: Dict[str, Branch] = {}
         self.proved: Dict[str, ProvedSubtree] = {}
-        self.began = time.monotonic()
+        self.began = deadline.spent()
 
     @cached_property
     def packed_problem(self) -> bytes:
@@ -141,8 +148,8 @@ class ParallelSearch:
 
         Raises:
             SearchPaused: The seconds or nodes are over; it can go on.
-            SearchEnded: It cannot: an interrupt, MOST_NODES, a tree that is too deep, a leaf that
-                does not close.
+            NodeNotClosed: Nothing is left but nodes that do not close.
+            SearchEnded: It cannot: an interrupt, MOST_NODES, a tree that is too deep.
         """
         search, is_alone = self.search, not self.pool.workers
         search.until = until
@@ -161,12 +168,23 @@ class ParallelSearch:
             self.pool.failed(fault)
         return self._run_here(search.run)
 
+    def set_cutoff(self, cutoff: Cutoff) -> None:
+        """Goes on for another cutoff: that of a better point, or a less demanding one, for both of
+        which all that is proved holds. Between two calls of `resume`.
+
+        Nodes that did not close are tried again.
+        """
+        self.problem = self.problem._replace(cutoff=cutoff)
+        self.search.set_cutoff(cutoff)
+        vars(self).pop("packed_problem", None)
+        self.waiting, self.set_aside = [*self.set_aside, *self.waiting], []
+
     def subtrees(self) -> List[Subtree]:
-        """All that is not proved, whether it waits or is worked."""
-        return [*self.waiting, *self.running.values()]
+        """All that is not proved, whether it waits, is set aside or is worked."""
+        return [*self.waiting, *self.set_aside, *self.running.values()]
 
     def close_and_bound(self) -> float:
-        """The least dual bound of what waits, minimised, each open node solved once more.
+        """The least dual bound of what is open, minimised, each open node solved once more.
 
         Called between two calls of `resume`, for a bound that is to be proved. The node of `search`
         stands elsewhere then; the subtrees keep their open nodes, so that it can still end at
@@ -178,7 +196,7 @@ class ParallelSearch:
             self.search.node.move_to(self._path(subtree.place), subtree.open_nodes)
             return self.search.close_and_bound()
 
-        return min(map(bound, self.waiting), default=math.inf)
+        return min(map(bound, self.subtrees()), default=math.inf)
 
     def finish_at_cutoff(self, cutoff: Cutoff) -> Optional[Tree]:
         """The whole tree for a cutoff that is not better, where few nodes more are enough.
@@ -190,6 +208,7 @@ class ParallelSearch:
             even than this cutoff.
         """
         try:
+            self.set_cutoff(cutoff)
             found = self._run_here(lambda: self.search.finish_at_cutoff(cutoff))
         except SearchEnded:
             return None
@@ -210,16 +229,29 @@ class ParallelSearch:
             0.5**depth for depth, node in open_nodes if node.sibling is not None
         )
 
-    def report_progress(self) -> None:
-        """Tells the deadline of nodes, open nodes and the bound, in the objective's own sense.
+    def open_count(self) -> int:
+        """How many nodes are open: known, and neither proved nor branched on."""
+        return sum(1 + len(subtree.open_nodes) for subtree in self.subtrees())
 
-        The search calls it at nodes where the progress is due. Without a cutoff no bound is told,
-        and nothing where `reports_progress` is not set.
+    def report_progress(self) -> None:
+        """Has the progress told, unless `reports_progress` is not set.
+
+        The search calls it at nodes where the progress is due.
         """
-        if not self.reports_progress:
-            return
-        open_nodes = sum(1 + len(subtree.open_nodes) for subtree in self.subtrees())
-        known = {"nodes": float(self.search.nodes), "open": float(open_nodes)}
+        if self.reports_progress:
+            (self.on_progress or self.tell_progress)()
+
+    def tell_progress(self) -> None:
+        """Tells the deadline of nodes, open nodes, the share of the tree that is closed, and the
+        bound, in the objective's own sense.
+
+        Without a cutoff no bound is told.
+        """
+        known = {
+            "nodes": float(self.search.nodes),
+            "open": float(self.open_count()),
+            "closed": self.proved_share(),
+        }
         if self.search.cutoff.value is not None:
             known["bound"] = self.search.program.sign * self.dual_bound
         self.deadline.tell_numbers(**known)
@@ -229,16 +261,25 @@ class ParallelSearch:
 
         Args:
             run: Works the subtree where the node of `search` then stands; what it raises goes on to
-                the caller, and the subtree waits with its open nodes.
+                the caller, and the subtree waits with its open nodes. A node that does not close is
+                set aside.
 
         Returns:
             The whole tree, or the first better point.
+
+        Raises:
+            NodeNotClosed: The last that was set aside, where nothing else is open.
         """
         while "" not in self.proved:
+            self._check_open()
             subtree = self.waiting[-1]
             self.search.node.move_to(self._path(subtree.place), subtree.open_nodes)
             subtree.open_nodes = self.search.node.open_nodes  # which change as it is worked
-            found = run()
+            try:
+                found = run()
+            except NodeNotClosed as fault:
+                self._set_aside(subtree, fault.reason)
+                continue
             if isinstance(found, ImprovedIncumbent):
                 return found
             self.waiting.pop()
@@ -259,12 +300,14 @@ class ParallelSearch:
         Raises:
             SearchPaused: The seconds or nodes are over; it can go on.
             PoolFailed: The pool does not work; this process can go on alone.
+            NodeNotClosed: Nothing is left but nodes that were set aside.
             SearchEnded: It cannot go on.
         """
         improved = None
         try:
             while "" not in self.proved and improved is None:
                 self.search.check_limits()
+                self._check_open()
                 self._submit_units(until)
                 improved = self._collect()
         except SearchPaused:
@@ -309,6 +352,24 @@ class ParallelSearch:
             self.proved[beside] = sibling
         return False
 
+    def _check_open(self) -> None:
+        """Looks whether there is something to be worked.
+
+        Raises:
+            NodeNotClosed: All that is open was set aside.
+        """
+        if not self.waiting and not self.running:
+            raise NodeNotClosed(self.set_aside[-1].why_not_closed)
+
+    def _set_aside(self, subtree: Subtree, reason: str) -> None:
+        """Sets the node aside where the search of a subtree stands, which was waiting; what else is
+        open in it waits as subtrees of their own, the deepest as the next."""
+        self.waiting.remove(subtree)
+        while self._split_subtree(subtree):
+            pass
+        subtree.why_not_closed = reason
+        self.set_aside.append(subtree)
+
     def _close(self, place: str, proved: ProvedSubtree) -> None:
         """Puts a proof into `proved`: of the subtree at this place, which waits no more, joined
         upwards as far as siblings are proved.
@@ -323,11 +384,27 @@ class ParallelSearch:
                 if sibling is None:
                     break
                 branch = self.branches[above]._replace(direction=direction)
-                is_needed = depth in sibling.needed_depths
-                proved = join(branch, depth, proved, sibling) if is_needed else sibling
+                if depth in sibling.needed_depths:
+                    proved = join(branch, depth, proved, sibling)
+                else:
+                    self.search.nodes -= 1 + node_count(proved.tree)
+                    proved = sibling
+            else:
+                self.search.nodes -= sum(self._node_counts(above))
             self._drop(above)
             place = above
         self.proved[place] = proved
+
+    def _node_counts(self, place: str) -> Iterator[int]:
+        """The nodes at a place and below it that `nodes` counts, part by part: branching nodes,
+        proofs, and what is open of subtrees."""
+        yield from (1 for at in self.branches if at.startswith(place))
+        yield from (node_count(p.tree) for at, p in self.proved.items() if at.startswith(place))
+        for subtree in self.subtrees():
+            if subtree.place.startswith(place) and not subtree.is_dropped:
+                siblings = (node.sibling for node in subtree.open_nodes if node.sibling is not None)
+                proved = sum(node_count(sibling.tree) for sibling in siblings)
+                yield len(subtree.open_nodes) + proved
 
     def _drop(self, place: str) -> None:
         """Forgets the branches and proofs at a place and below it, and marks the subtrees there as
@@ -339,9 +416,10 @@ class ParallelSearch:
         self._cancel_dropped()
 
     def _cancel_dropped(self) -> None:
-        """Takes dropped subtrees out of `waiting`, and cancels their units that no process has
+        """Takes dropped subtrees out of `waiting` and `set_aside`, and cancels their units that no process has
         begun. The others are not taken when they end."""
         self.waiting = [subtree for subtree in self.waiting if not subtree.is_dropped]
+        self.set_aside = [subtree for subtree in self.set_aside if not subtree.is_dropped]
         for future, subtree in self.running.items():
             if subtree.is_dropped:
                 future.cancel()
@@ -372,13 +450,15 @@ class ParallelSearch:
             self.running[future] = self.waiting.pop()
 
     def _unit(self, subtree: Subtree, until: float) -> WorkUnit:
-        """What a process gets of a subtree: for UNIT_SHARE of the seconds of the wall since
-        `began`, within the limits of units, at least what the subtree asks, and not beyond `until`.
+        """What a process gets of a subtree: for UNIT_SHARE of the seconds of the search so far,
+        within the limits of units, at least what the subtree asks, and not beyond `until`; all by
+        the clock of the deadline.
 
         What is proved of siblings stays here; a RemoteSubtree stands for it, with its place among
         the open nodes as the key, by which `_take` puts it back.
         """
-        seconds = max(UNIT_SHARE * (time.monotonic() - self.began), LEAST_UNIT_SECONDS)
+        so_far = self.deadline.spent() - self.began
+        seconds = max(UNIT_SHARE * so_far, LEAST_UNIT_SECONDS)
         seconds = max(min(seconds, MOST_UNIT_SECONDS), subtree.seconds)
         seconds = min(seconds, max(until - self.deadline.spent(), 0.0))
         open_nodes = [
@@ -387,7 +467,8 @@ class ParallelSearch:
         ]
         pseudocosts = self.search.branching.pseudocosts
         path = self._path(subtree.place)
-        return WorkUnit(self.packed_problem, path, open_nodes, pseudocosts, seconds)
+        of_processor = self.deadline.of_processor
+        return WorkUnit(self.packed_problem, path, open_nodes, pseudocosts, seconds, of_processor)
 
     def _collect(self) -> Optional[ImprovedIncumbent]:
         """Waits up to POLL_SECONDS for a unit to end, and takes what ended.
@@ -411,11 +492,10 @@ class ParallelSearch:
         return None
 
     def _take(self, subtree: Subtree, future: Future[UnitResult]) -> Optional[ImprovedIncumbent]:
-        """Takes what a unit made of its subtree: open nodes, or the proof, and nodes and
-        pseudocosts.
+        """Takes what a unit made of its subtree: open nodes, or the proof, and nodes and what it
+        learnt of pseudocosts.
 
-        The pseudocosts of the unit that came back last are those of all units that are made from
-        then on. Where the process died, the subtree stays as it was and is worked again.
+        Where the process died, the subtree stays as it was and is worked again.
 
         Returns:
             The better point where the unit found one; then the subtree stays as it was.
@@ -425,10 +505,13 @@ class ParallelSearch:
             PoolFailed: Too many processes died with the subtree.
         """
         result = _result_of(subtree, future)
-        if result is None or result.improved is not None:
-            return None if result is None else result.improved
+        if result is None:
+            return None
+        self.deadline.count_elsewhere(result.seconds / max(self.pool.workers, 1))
+        if result.improved is not None:
+            return result.improved
         self.search.nodes += result.nodes
-        self.search.branching.pseudocosts = result.pseudocosts
+        self.search.branching.pseudocosts.add(result.learnt)
         kept = {
             key: node.sibling.tree
             for key, node in enumerate(subtree.open_nodes)
@@ -443,6 +526,8 @@ class ParallelSearch:
         if result.proved is not None:
             self.waiting.remove(subtree)
             self._close(subtree.place, _here(result.proved, kept))
+        elif result.why_not_closed:
+            self._set_aside(subtree, result.why_not_closed)
         return None
 
     def _withdraw(self) -> None:

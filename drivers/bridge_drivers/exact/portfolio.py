@@ -15,31 +15,35 @@ processor's.
 from __future__ import annotations
 
 import math
-from dataclasses import dataclass
+import weakref
 from fractions import Fraction
-from typing import Dict, FrozenSet, Iterator, List, Mapping, NamedTuple, Optional, Sequence
+from typing import Callable, Dict, List, Optional, Sequence
 
 from .lattice import thin_directions
 from .short_duals import box_bound
 from .search_deadline import SearchDeadline
-from ..model.integer_form import IntegerProgram, Row
+from ..model.integer_form import IntegerProgram, Point, Row
 from ..system.errors import SearchEnded, SearchPaused
-from .cuts import CertificateWithCuts, CutKind, ObjectiveCutoff, ProvedCut, RootCutLoop
+from .cuts import CertificateWithCuts, ObjectiveCutoff, ProvedCut, RootCutLoop
 from .parallel import ParallelSearch
-from .search import MOST_NODES, ExactPoint, ImprovedIncumbent
+from .search import MOST_NODES, ExactPoint, ImprovedIncumbent, NodeNotClosed
+from .strategies import (
+    CLIQUE,
+    KINDS_OF_CUTS,
+    LEAST_CLOSED_SHARE,
+    LEAST_ESTIMATE,
+    MIR,
+    PLAIN,
+    THIN,
+    Preparation,
+    ProvedBound,
+    Strategy,
+    TreeText,
+    joint_progress,
+)
 from .tree import Tree
 from .worker_pools import SearchProblem, WorkerPool
 from .work_limit import check_work
-
-# names of strategies, as they are told
-PLAIN = "plain"
-MIR = "lemma"
-CLIQUE = "clique"
-THIN = "thin"
-KINDS_OF_CUTS: Mapping[str, FrozenSet[CutKind]] = {
-    MIR: frozenset({CutKind.MIR}),
-    CLIQUE: frozenset({CutKind.MIR, CutKind.CLIQUE}),
-}
 
 RESERVE = 0.07  # of the limit of all seconds, for a bound
 FIRST_NODES = 100  # of the plain search, before all else
@@ -47,135 +51,26 @@ TURN_SECONDS = 0.25  # that a turn has at least
 PLAIN_TURN_SECONDS = 0.1  # of a run that has no other strategy
 PLAIN_RESERVE_SECONDS = 1.0  # for a bound, in such a run
 OTHERS_SHARE = 0.1  # of all seconds, for what is not the first strategy
+CUTS_SHARE = 0.4  # of all seconds, for cuts, whatever other strategies took
+LEAST_ROUND_SECONDS = 0.2  # of these at a time: a round of cuts takes its time
+MOST_STRATEGIES_BELOW_CUTS = 5
 FARTHEST_FORECAST = 2.0  # times the seconds so far: later ends of the first strategy count as this
-LEAST_CUT_SECONDS = 0.05  # from which on cuts are made
+LEAST_CUT_SECONDS = 0.05  # from which on the first cuts are made
 FIRST_CUT_SECONDS = 0.5  # that they may be made at once
 LATTICE_AFTER_SECONDS = 2.0  # before which no lattice is reduced
 MOST_LATTICE_COLUMNS = 45  # integer ones
-LEAST_CLOSED_SHARE = 0.01  # of the gap, for cuts to be worth a strategy, or more time
-MOST_VAIN_ATTEMPTS = 10  # to make cuts that close more
-SHARE_OF_REST = 2.0  # times the gap that cuts leave: the share of the seconds that is left then
+ENOUGH_CLOSED = {MIR: 0.5, CLIQUE: 0.25}  # of the gap: then a strategy begins below the cuts
+LEAST_SHARE_BELOW_CUTS = 0.2  # of another strategy's seconds, that one below cuts seems to need
 SHORTER_TIMES = 4.0  # the seconds of the first tree, for a shorter one
 SHORTER_SECONDS = 2.0  # more
 SHORT_TREE = 40  # nodes of a tree that needs no shorter one
-LEAST_ESTIMATE = 1e-9  # seconds
+LARGE_TREE = 1000  # nodes of a tree for which a shorter one is looked for in any case
+LARGE_TREE_TIMES = 0.25  # the seconds of such a tree, for a shorter one
+WORSE_SHARE = 0.1  # of a tree's nodes, for a worse value: from then on it is searched once more
 
 BOUND_DIGITS = 3  # of the gap, in which a bound is told
 LOWERINGS = (0.0, 1e-9, 1e-7, 1e-5, 1e-3)  # of a bound in turn, relative, until it is proved
 LATTICE_TOLERANCE = 1e-6  # spacings, by which a bound may be beyond a value of the lattice
-
-
-class TreeText(NamedTuple):
-    """The text of a tree, with the cuts that it uses: what stands in a certificate between its head
-    and its end.
-
-    Attributes:
-        text: Lines, each with its end; ASCII.
-        nodes: In the text, those of the cuts' proofs too.
-        cuts: In the text: only those that the tree needs.
-        strategy: The name of the one that found it.
-    """
-
-    text: str
-    nodes: int
-    cuts: int
-    strategy: str
-
-    @property
-    def size(self) -> int:
-        """In bytes; the shortest tree is the one with the least."""
-        return len(self.text)
-
-    def lines(self) -> Iterator[str]:
-        """The text's lines, without their ends."""
-        start = 0
-        while start < len(self.text):
-            end = self.text.index("\n", start)
-            yield self.text[start:end]
-            start = end + 1
-
-
-class ProvedBound(NamedTuple):
-    """A value that no point is better than, minimised, with the tree that proves it."""
-
-    value: Fraction
-    tree: TreeText
-
-
-@dataclass
-class Strategy:
-    """A search that can go on, with what it took so far.
-
-    Attributes:
-        name: As it is told.
-        cuts: That the search stands below.
-        search: Paused at the end of each turn.
-        spent: Seconds so far.
-        first_estimate: Seconds that it seems to take in all, until some of its tree is proved.
-        correction: A factor above 1 where its estimates were too low.
-        report: How its last turn ended, behind its name: why it was paused or failed, or the size
-            of its tree; empty before.
-        has_ended: Whether it cannot go on: it has its tree, or it failed.
-        tree: The text, where it has one.
-        proved_value: The value, minimised, at which a bound was last tried: leaves that are proved
-            since then hold only up to it, so that no later one is above it. None before.
-    """
-
-    name: str
-    cuts: Sequence[ProvedCut]
-    search: ParallelSearch
-    spent: float = 0.0
-    first_estimate: float = math.inf
-    correction: float = 1.0
-    report: str = ""
-    has_ended: bool = False
-    tree: Optional[TreeText] = None
-    proved_value: Optional[Fraction] = None
-
-    def estimated_seconds(self) -> float:
-        """The seconds that this strategy still needs, for the portfolio's choice of the next turn.
-
-        By the share of the tree that is proved so far; where none is, all of `first_estimate`,
-        which may be infinite. At least LEAST_ESTIMATE, times `correction`, which is more than 1
-        where earlier estimates were too low.
-        """
-        share = self.search.proved_share()
-        rest = self.spent * (1 - share) / share if share else self.first_estimate
-        return max(rest, LEAST_ESTIMATE) * self.correction
-
-
-class Preparation:
-    """What is made for further strategies, bit by bit: cuts, and forms of a reduced lattice.
-
-    Attributes:
-        names: Of strategies that are still to be prepared, in order.
-        cuts: Made so far for the first of them; those that were there before included.
-        closed_share: Of the gap between root bound and value, by these.
-        vain_attempts: How many in a row closed no more.
-    """
-
-    def __init__(self, names: Sequence[str]) -> None:
-        """Nothing is made yet of these strategies, of which the first is prepared first."""
-        self.names = list(names)
-        self.begin_next()
-
-    def begin_next(self) -> None:
-        """Begins with what is now the first of the names: of that nothing is made yet."""
-        self.cuts: List[ProvedCut] = []
-        self.closed_share = 0.0
-        self.vain_attempts = 0
-
-    def add(self, cuts: List[ProvedCut], closed_share: float) -> None:
-        """Takes the cuts that some seconds made; they replace those before. It was in vain where
-        they close not even LEAST_CLOSED_SHARE of the gap more."""
-        is_vain = closed_share < self.closed_share + LEAST_CLOSED_SHARE
-        self.cuts = cuts
-        self.vain_attempts = self.vain_attempts + 1 if is_vain else 0
-        self.closed_share = closed_share
-
-    def is_in_vain(self) -> bool:
-        """Whether more than MOST_VAIN_ATTEMPTS in a row were in vain."""
-        return self.vain_attempts > MOST_VAIN_ATTEMPTS
 
 
 class Portfolio:
@@ -188,6 +83,8 @@ class Portfolio:
         cut_loop: Makes cuts, from `_prepare`.
         strategies: That were begun, the plain one first.
         best: The tree with the shortest text so far.
+        bound: A tree for a value that is a little worse, where nodes close for that alone.
+        on_improved: Is told each better point that a search finds.
         started: The second of the deadline at which it began.
         end: Seconds after `started` at which a shorter tree is not looked for any more.
         has_no_value: Whether there is to be no point: then there is no gap to be seen.
@@ -221,6 +118,8 @@ class Portfolio:
         self.objective = ObjectiveCutoff(program, value, self.lattice)
         self.cut_loop = RootCutLoop(program, self.objective, deadline)
         self.best: Optional[TreeText] = None
+        self.bound: Optional[ProvedBound] = None
+        self.on_improved: Callable[[Point], None] = lambda point: None
         self.strategies: List[Strategy] = []
         self.started = deadline.spent()
         self.end = math.inf  # seconds after `started`
@@ -232,6 +131,16 @@ class Portfolio:
         """The best that a search has told: no point is better, minimised, as far as CLP's doubles
         go. Minus infinity before there is one."""
         return max((strategy.search.dual_bound for strategy in self.strategies), default=-math.inf)
+
+    def tell_progress(self) -> None:
+        """Tells the deadline what all strategies have together, while one of them has its turn.
+
+        The bound is the best of all, in the objective's own sense.
+        """
+        known = joint_progress(self.strategies, self.deadline.spent())
+        if not self.has_no_value:
+            known["bound"] = self.program.sign * self.dual_bound
+        self.deadline.tell_numbers(**known)
 
     def reports(self) -> List[str]:
         """How each strategy that had a turn ended its last one, in the order of their beginnings."""
@@ -245,7 +154,9 @@ class Portfolio:
         above: List[Row] = [*self.objective.open_rows(), *(cut.row() for cut in cuts)]
         problem = SearchProblem(self.program, above, forms, self.objective.cutoff)
         search = ParallelSearch(problem, self.exact_point, self.deadline, self.pool)
-        self.strategies.append(Strategy(name, cuts, search))
+        this: Portfolio = weakref.proxy(self)  # so that CLP's memory is free with the last use
+        search.on_progress = lambda: this.tell_progress()
+        self.strategies.append(Strategy(name, cuts, forms, search, self.objective))
         return self.strategies[-1]
 
     def resume(
@@ -254,38 +165,84 @@ class Portfolio:
         """Goes on with a strategy, for so many seconds or nodes.
 
         It adds to the strategy's `spent`, sets its `report`, and ends it where it failed or has a
-        tree.
+        tree. A point that is better than the value makes its value that of all, which go on where
+        they stand: what is proved holds for it, too. Where nothing is left but nodes that do not
+        close, the strategy goes on for a bound that is a little worse.
 
         Args:
             budget: Seconds; a reserve of the deadline is left however many they are.
             most_nodes: Of its tree in all.
 
         Returns:
-            A point that is better than the value, where one was found.
+            A point that is found where there is to be none; else None.
         """
         if strategy.has_ended:
             return None
-        began = self.deadline.spent()
+        began, until = self.deadline.spent(), self.until(budget)
+        strategy.turn_began = began
         try:
-            found = strategy.search.resume(self.until(budget), most_nodes)
+            found = strategy.search.resume(until, most_nodes)
+            while isinstance(found, ImprovedIncumbent) and not self.has_no_value:
+                self._improve(found)
+                found = strategy.search.resume(until, most_nodes)
         except SearchEnded as ended:
             strategy.report = f"{strategy.name}: {ended}"
-            strategy.has_ended = not isinstance(ended, SearchPaused)
+            is_over = not isinstance(ended, SearchPaused)
+            is_lowered = isinstance(ended, NodeNotClosed) and self._lower(strategy)
+            strategy.has_ended = is_over and not is_lowered
             return None
         finally:
             strategy.spent += self.deadline.spent() - began
+            strategy.turn_began = None
         if isinstance(found, ImprovedIncumbent):
             return found
         self._end_with_tree(strategy, found)
         return None
 
+    def _improve(self, found: ImprovedIncumbent) -> None:
+        """Makes the value of a better point that of all strategies and cuts to come."""
+        self.objective = ObjectiveCutoff(self.program, found.value, self.lattice)
+        self.cut_loop.set_objective(self.objective)
+        for strategy in self.strategies:
+            if not strategy.has_ended:
+                strategy.worse_nodes = strategy.search.search.nodes
+                self._aim(strategy)
+        self.on_improved(found.point)
+
+    def _lower(self, strategy: Strategy) -> bool:
+        """Has a strategy go on for the next worse bound of LOWERINGS; whether there is one.
+
+        There is none where no value is looked for. On a lattice there is room below the next value
+        already.
+        """
+        has_more = strategy.lowerings + 1 < len(LOWERINGS)
+        if self.has_no_value or self.lattice is not None or not has_more:
+            return False
+        strategy.lowerings += 1
+        self._aim(strategy)
+        return True
+
+    def _aim(self, strategy: Strategy) -> None:
+        """Gives a strategy the objective that it is to prove: the portfolio's, less its lowering,
+        in few digits."""
+        value, lowering = self.objective.value, LOWERINGS[strategy.lowerings]
+        strategy.objective = self.objective
+        if lowering and value is not None:
+            size = max(Fraction(1), abs(value))
+            unit = Fraction(10) ** (
+                math.floor(math.log10(size * Fraction(lowering))) - BOUND_DIGITS
+            )
+            lowered = math.ceil((value - size * Fraction(lowering)) / unit) * unit
+            strategy.objective = ObjectiveCutoff(self.program, lowered, self.lattice)
+        strategy.search.set_cutoff(strategy.objective.cutoff)
+
     def race(self) -> Optional[ImprovedIncumbent]:
-        """Runs all strategies in turns, until there is a tree, a better point, or no time.
+        """Runs all strategies in turns, until there is a tree or no time.
 
         The tree is in `best`; without one `reports` say why. The seconds count from its start.
 
         Returns:
-            A point that is better than the value, where one was found.
+            A point that is found where there is to be none; else None.
         """
         self.started = self.deadline.spent()
         improved = self.resume(self.begin(PLAIN), self.seconds_left(), FIRST_NODES)
@@ -293,12 +250,14 @@ class Portfolio:
             live = [strategy for strategy in self.strategies if not strategy.has_ended]
             first = self._likely_first(live)
             seconds = self.time_for_others(first)
-            if self._is_preparation_due(seconds):
-                self._prepare(seconds)
+            preparing = max(seconds, self.time_for_cuts())
+            if self._is_preparation_due(preparing):
+                self._prepare(preparing)
             elif first is None:
-                return None
+                break
             else:
                 improved = self.take_turn(_next_turn(live, first, seconds), first, seconds)
+        self._search_once_more()
         return improved
 
     def run_plain(self) -> Optional[ImprovedIncumbent]:
@@ -308,7 +267,7 @@ class Portfolio:
         seconds are left to prove it. The tree is in `best`.
 
         Returns:
-            A point that is better than the value, where one was found.
+            A point that is found where there is to be none; else None.
         """
         strategy = self.begin(PLAIN)
         strategy.search.reports_progress = False
@@ -316,11 +275,27 @@ class Portfolio:
         while (
             improved is None
             and self.seconds_left() > 0
-            and self.deadline.left_to_find() > PLAIN_RESERVE_SECONDS
+            and self.deadline.to_find().left() > PLAIN_RESERVE_SECONDS
             and not strategy.has_ended
         ):
             improved = self.resume(strategy, PLAIN_TURN_SECONDS)
+        self._search_once_more()
         return improved
+
+    def _search_once_more(self) -> None:
+        """Where much of the shortest tree was proved for worse values, its strategy searches once
+        more, in at most as much time; the shorter of both texts stays.
+
+        For a better value a node may close that had to be branched on.
+        """
+        first = next((s for s in self.strategies if s.tree is self.best is not None), None)
+        if first is None or first.worse_nodes < WORSE_SHARE * first.search.search.nodes:
+            return
+        seconds = min(self.seconds_so_far(), self.seconds_left())
+        if seconds > 0 and not self.deadline.is_interrupted:
+            again = self.begin(first.name, first.cuts, first.forms)
+            again.search.reports_progress = first.search.reports_progress
+            self.resume(again, seconds)
 
     def seconds_left(self) -> float:
         """For strategies: what is left of the deadline but for RESERVE of all its seconds, which is
@@ -358,18 +333,33 @@ class Portfolio:
         seconds = min(OTHERS_SHARE * (total + rest) - others, rest / 2)
         return max(seconds, FIRST_CUT_SECONDS - others) if self.has_no_value else seconds
 
+    def time_for_cuts(self) -> float:
+        """Seconds that may go now to cuts alone, whatever other strategies took: CUTS_SHARE of all,
+        less what was made; minus infinity where that is not enough for a round of them.
+
+        A round is LEAST_ROUND_SECONDS, and twice as long after each that was in vain.
+        """
+        preparation = self.preparation
+        if preparation.names[:1] == [THIN]:
+            return -math.inf
+        seconds = CUTS_SHARE * self.seconds_so_far() - preparation.seconds
+        is_enough = seconds >= LEAST_ROUND_SECONDS * 2**preparation.vain_attempts
+        return seconds if is_enough else -math.inf
+
     def take_turn(
         self, strategy: Strategy, first: Strategy, seconds_for_others: float
     ) -> Optional[ImprovedIncumbent]:
-        """One strategy goes on, for as long as it had so far, but at most twice its estimate; at
-        least TURN_SECONDS, not past `end`, and one that is not the first no longer than there is
-        time for others.
+        """One strategy goes on, for as long as it had so far, but at most twice its estimate; for
+        half as long while cuts close more of the gap each time that some are made. At least
+        TURN_SECONDS, not past `end`, and one that is not the first no longer than there is time for
+        others.
 
         The estimates of a strategy that takes longer than it seemed to are corrected. The answer is
         a better point, where one was found.
         """
         estimate = strategy.estimated_seconds()
-        seconds = max(min(strategy.spent, 2 * estimate), TURN_SECONDS)
+        spent = strategy.spent / 2 if self.preparation.is_fruitful() else strategy.spent
+        seconds = max(min(spent, 2 * estimate), TURN_SECONDS)
         seconds = min(seconds, self.end - self.seconds_so_far())
         if strategy is not first:
             seconds = min(seconds, seconds_for_others)
@@ -382,7 +372,8 @@ class Portfolio:
         """The best bound of the paused searches that can be proved, the closest dual bound first;
         None where none can.
 
-        Called where the time is over and there is no tree; it may be called again, for the next.
+        Called where there is no tree; it may be called again, for the next. A tree that a strategy
+        has for a worse bound comes first.
         Each search is ended at its own bound, rounded by `rounded_bound` and lowered by the
         LOWERINGS in turn until each open node is proved by few nodes. The strategy that proves it
         is taken out of `strategies`; a search that was tried cannot go on.
@@ -390,6 +381,9 @@ class Portfolio:
         Raises:
             TimeOver: The time of exact work is over.
         """
+        if self.bound is not None:
+            known, self.bound = self.bound, None
+            return known
         for strategy in sorted(self.strategies, key=lambda s: -s.search.dual_bound):
             bound = strategy.search.close_and_bound()
             for lowering in LOWERINGS if bound > -math.inf else ():
@@ -434,14 +428,18 @@ class Portfolio:
 
     def _end_with_tree(self, strategy: Strategy, tree: Tree) -> None:
         """Ends a strategy that has its tree: sets its `has_ended`, `tree` and `report`, and `best`
-        where no tree before has as short a text."""
+        where no tree before has as short a text; `bound` where it is for a worse value."""
         strategy.has_ended = True
-        text = self._text(strategy, self.objective, tree)
+        text = self._text(strategy, strategy.objective, tree)
         strategy.tree = text
         strategy.report = f"{strategy.name}: {text.nodes} nodes, {text.size} bytes"
         if strategy.cuts:
             strategy.report += f", {text.cuts} of {len(strategy.cuts)} rows"
-        if self.best is None or text.size < self.best.size:
+        value = strategy.objective.value
+        if strategy.lowerings and value is not None:
+            if self.bound is None or value > self.bound.value:
+                self.bound = ProvedBound(value, text)
+        elif self.best is None or text.size < self.best.size:
             self.best = text
 
     def _text(self, strategy: Strategy, objective: ObjectiveCutoff, tree: Tree) -> TreeText:
@@ -456,12 +454,19 @@ class Portfolio:
         """Whether there is anything more to be had, and time.
 
         After a tree it goes on only where a shorter one is wanted and this one has more than
-        SHORT_TREE nodes; then it sets `end` to some times the seconds so far.
+        SHORT_TREE nodes, or where it has more than LARGE_TREE; then it sets `end` to some times the
+        seconds so far. After one for a worse
+        bound it does not: other strategies meet the same nodes.
         """
+        if self.bound is not None:
+            return False
         if self.best is not None:
-            if not self.shortens or self.best.nodes <= SHORT_TREE:
+            if self.best.nodes <= (SHORT_TREE if self.shortens else LARGE_TREE):
                 return False
-            self.end = min(self.end, (1 + SHORTER_TIMES) * self.seconds_so_far() + SHORTER_SECONDS)
+            times, more = LARGE_TREE_TIMES, 0.0
+            if self.shortens:
+                times, more = SHORTER_TIMES, SHORTER_SECONDS
+            self.end = min(self.end, (1 + times) * self.seconds_so_far() + more)
         seconds = min(self.seconds_left(), self.end - self.seconds_so_far())
         return seconds > 0 and not self.deadline.is_interrupted
 
@@ -480,8 +485,8 @@ class Portfolio:
     def _is_preparation_due(self, budget: float) -> bool:
         """Whether more is made now for a further strategy, in place of a turn.
 
-        It is where no strategy goes on, else for cuts as soon as LEAST_CUT_SECONDS are there. A
-        lattice comes late, after LATTICE_AFTER_SECONDS of all, but at once where there is no value.
+        It is where no strategy goes on, else for cuts as soon as LEAST_CUT_SECONDS are there, and
+        then LEAST_ROUND_SECONDS: of less than a round of them nothing comes. A lattice comes late, after LATTICE_AFTER_SECONDS of all, but at once where there is no value.
 
         Args:
             budget: As `time_for_others` says; infinite where no strategy goes on.
@@ -492,8 +497,9 @@ class Portfolio:
         is_lattice = names[0] == THIN
         if budget == math.inf or self.has_no_value and is_lattice:
             return True
-        is_early = is_lattice and self.seconds_so_far() < LATTICE_AFTER_SECONDS
-        return budget >= LEAST_CUT_SECONDS and not is_early
+        if is_lattice:
+            return budget >= LEAST_CUT_SECONDS and self.seconds_so_far() >= LATTICE_AFTER_SECONDS
+        return budget >= (LEAST_ROUND_SECONDS if self.preparation.seconds else LEAST_CUT_SECONDS)
 
     def _prepare(self, budget: float) -> None:
         """Makes some seconds of the first preparation; where that is done a strategy begins, if it
@@ -505,25 +511,31 @@ class Portfolio:
         Args:
             budget: Seconds that there are for it.
         """
-        name = self.preparation.names[0]
+        name, began = self.preparation.names[0], self.deadline.spent()
         if name == THIN:
             self.preparation.names.pop(0)
             forms = self._lattice_forms()
             if forms:
                 strategy = self.begin(THIN, [], forms)
                 strategy.first_estimate = TURN_SECONDS if self.has_no_value else math.inf
-        elif self.cut_loop.solve_relaxation([]) is None:
+        elif self.cut_loop.solve_relaxation(self._cuts_so_far()) is None:
             self.preparation.names.pop(0)
         else:
             self._make_cuts(name, budget)
+        self.preparation.seconds += self.deadline.spent() - began
+
+    def _cuts_so_far(self) -> Sequence[ProvedCut]:
+        """Those of the last strategy that has some: what is made next stands below them."""
+        return next((s.cuts for s in reversed(self.strategies) if s.cuts), ())
 
     def _make_cuts(self, name: str, budget: float) -> None:
         """Makes some seconds of cuts below those that are there: the ones made before, else those
-        of the strategy with MIR cuts.
+        of the last strategy with cuts, whose relaxation `cut_loop` has solved.
 
-        They are done when the loop ends by itself, when they are in vain, or when they close half
-        of the gap (by SHARE_OF_REST). Then their strategy begins, where they close at least
-        LEAST_CLOSED_SHARE of the gap or there is no value to see that by, and the next is prepared.
+        They are done when the loop ends by itself or when they are in vain, MIR cuts at once. Then,
+        or when they close ENOUGH_CLOSED of the gap, a strategy begins, where they close at least
+        LEAST_CLOSED_SHARE of it or there is no value to see that by, and the next is prepared. With
+        cliques there is one for each such part of what is left of the gap.
 
         Args:
             name: The strategy's, whose kinds of cuts are made.
@@ -532,31 +544,36 @@ class Portfolio:
         loop, preparation = self.cut_loop, self.preparation
         root_bound = loop.dual_bound
         until = self.until(min(budget, max(self.seconds_so_far(), FIRST_CUT_SECONDS)))
-        below_mir: Sequence[ProvedCut] = next(
-            (s.cuts for s in self.strategies if s.name == MIR), ()
-        )
-        before = preparation.cuts or below_mir
+        before = preparation.cuts or self._cuts_so_far()
         cuts = loop.run(KINDS_OF_CUTS[name], before, until)
         preparation.add(cuts, loop.closed_share(root_bound))
         closed_share = preparation.closed_share
-        is_enough = SHARE_OF_REST * (1 - closed_share) <= 1
-        if loop.is_over(until) and not preparation.is_in_vain() and not is_enough:
+        is_done = not loop.is_over(until) or preparation.is_in_vain()
+        if not is_done and closed_share < ENOUGH_CLOSED[name]:
             return
-        preparation.names.pop(0)
+        count = sum(bool(strategy.cuts) for strategy in self.strategies)
+        if is_done or name != CLIQUE or count >= MOST_STRATEGIES_BELOW_CUTS:
+            preparation.names.pop(0)
         if cuts and (closed_share >= LEAST_CLOSED_SHARE or self.has_no_value):
             estimate = self._estimate_below_cuts(closed_share)
             self.begin(name, cuts).first_estimate = estimate
         preparation.begin_next()
 
     def _estimate_below_cuts(self, closed_share: float) -> float:
-        """Seconds that a search below cuts seems to take, which close such a share of the gap:
-        those that are left of the plain one, times SHARE_OF_REST and the share of the gap that is
-        left."""
+        """Seconds that a search below cuts seems to take, which close such a share of the gap that
+        the cuts before them left.
+
+        The size of a tree is taken to be exponential in the gap: of one with N nodes it is N to the
+        power of what is left of the gap. Seconds and N are those of another strategy, of which
+        something is known. A turn is the least, so that the first one tells nothing of later ones.
+        """
         if self.has_no_value:
             return TURN_SECONDS
-        forecast = FARTHEST_FORECAST * self.seconds_so_far()
-        without_cuts = min(self.strategies[0].estimated_seconds(), forecast)
-        return without_cuts * SHARE_OF_REST * max(1 - closed_share, 0.0)
+        known = [s for s in self.strategies if not s.cuts or s.spent]
+        other = min(known, key=lambda s: s.estimated_seconds())
+        seconds = min(other.estimated_seconds(), FARTHEST_FORECAST * self.seconds_so_far())
+        share = math.pow(other.estimated_nodes(), -min(max(closed_share, 0.0), 1.0))
+        return max(seconds * max(share, LEAST_SHARE_BELOW_CUTS), TURN_SECONDS)
 
     def _lattice_forms(self) -> List[Dict[int, int]]:
         """The forms to branch on beside columns, as whole coefficients by column; none unless all

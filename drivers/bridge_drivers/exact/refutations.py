@@ -8,6 +8,7 @@ looked at, and the caller takes the first that is proved.
 
 from __future__ import annotations
 
+import contextlib
 import math
 from typing import Callable, Iterator, Optional, Union
 
@@ -53,6 +54,11 @@ class Refuter:
             on_point: What is yielded from a point that a search finds.
         """
         yield from self.rounding_refutations()
+        lattice = None if self.task.is_linear else self.task.lattice_optimum
+        if lattice is not None:
+            yield from self.by_lattice()
+            if lattice.point is not None:
+                yield from on_point(lattice.point)
         try:
             if self.task.is_linear and is_small(self.program):
                 yield from self.by_rational_simplex()
@@ -81,6 +87,13 @@ class Refuter:
             if refutation is not None:
                 lines = refutation_lines(refutation, self.program.m)
                 yield self.store.judged(lines, figures)
+
+    def by_lattice(self) -> Iterator[Evidence]:
+        """Yields what an exact search over the lattice of a small program's equations proves: that
+        it has no point, or its optimum. Nothing is yielded where that search has no tree."""
+        found = self.task.lattice_optimum
+        if found is not None and found.tree is not None:
+            yield self.store.claim_of_tree(found.tree, found.point)
 
     def by_relaxation_at_last(self) -> Iterator[Evidence]:
         """Yields what the relaxation of a small integer program proves in fractions: that it has no
@@ -123,7 +136,7 @@ class Refuter:
                 yield self.store.claim_of_ray(point, ended.ray)
             else:
                 self.store.add_point(point)
-                self.store.add_leaf(leaf)
+                self.store.add_leaf(leaf, is_exact=True)
                 yield from self.store.claim_of_optimum(point, leaf)
 
     def certify_ray(self) -> Evidence:
@@ -131,31 +144,31 @@ class Refuter:
         with the reason.
 
         Of an answer to the relaxation of an integer program nothing is tried: that says nothing of
-        the program.
-
-        Raises:
-            SearchEnded: The time ended in the simplex method in fractions.
+        the program. Where the time ends it is `not proved`, too, so that what is known is told.
         """
         if self.task.options.is_relaxation and not self.task.is_linear:
             return not_proved("only the relaxation is unbounded")
-        ray = self.find_ray()
+        try:
+            ray = self.find_ray()
+            point = None if ray is None else self._any_point()
+        except SearchEnded as ended:
+            return not_proved(ended)
         if ray is None:
             return not_proved("no exact ray was found")
-        point = self._any_point()
         if point is None:
             return not_proved("no exact point was found")
         return self.store.claim_of_ray(point, ray)
 
     def ray_of_point(self, point: Optional[Point]) -> Iterator[Evidence]:
         """Yields that the objective has no bound, by a known point and a ray. Such is looked for
-        wherever a point but no bound is known.
-
-        Raises:
-            SearchEnded: The time ended in the simplex method in fractions.
+        wherever a point but no bound is known. Where the time ends nothing is yielded, so that what
+        is known is told.
         """
         if point is None or self.store.bound is not None:
             return
-        ray = self.find_ray()
+        ray = None
+        with contextlib.suppress(SearchEnded):
+            ray = self.find_ray()
         if ray is not None:
             yield self.store.claim_of_ray(point, ray)
 

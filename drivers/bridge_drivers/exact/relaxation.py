@@ -6,12 +6,16 @@ here.
 
 from __future__ import annotations
 
+import math
 from fractions import Fraction
+from typing import List
 
 from .clp import Clp, scaling_power
 from ..model.double_form import DoubleProgram
 from ..model.integer_form import IntegerProgram
 
+# times the least coefficient of a row: from there on a column is made greater for CLP
+BIG_COEFFICIENT = 1e4
 # how much CLP may miss rows and bounds of phase one, whose optimum is compared with 0
 PHASE_ONE_TOLERANCE = 1e-9
 
@@ -25,7 +29,23 @@ def relaxation(program: IntegerProgram, *, has_costs: bool = True) -> Clp:
     Raises:
         ClpNotInstalled: There is no library of CLP.
     """
-    return Clp(program.in_doubles(has_costs=has_costs))
+    return Clp(program.in_doubles(has_costs=has_costs), enlargements(program))
+
+
+def enlargements(program: IntegerProgram) -> List[float]:
+    """By column the power of two that CLP's column is multiplied by, for coefficients that are far
+    greater than others of their rows.
+
+    CLP leaves a binary column basic at 6e-9, which is within its tolerance of 0; times a big M of
+    1e9 that is 6 units, so that the row says nothing. Multiplied by the ratio of the coefficients,
+    the column is 0 or seen to be none. Only programs with integer columns have other factors than 1.
+    """
+    if not any(program.is_integer):
+        return [1.0] * program.n
+    return [
+        2.0 ** math.frexp(ratio)[1] if ratio >= BIG_COEFFICIENT else 1.0
+        for ratio in program.dominance
+    ]
 
 
 def phase_one(program: IntegerProgram) -> Clp:
@@ -47,7 +67,8 @@ def phase_one(program: IntegerProgram) -> Clp:
             doubles.row_lower,
             doubles.row_upper,
             doubles.columns.with_units(artificial),
-        )
+        ),
+        enlargements(program),
     )
     clp.set_tolerance(PHASE_ONE_TOLERANCE)
     return clp

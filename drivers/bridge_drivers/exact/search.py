@@ -12,20 +12,26 @@ from __future__ import annotations
 
 import math
 from fractions import Fraction
+from functools import partial
 from typing import Callable, Dict, List, NamedTuple, Optional, Sequence, Union
 
 from ..model.integer_form import IntegerProgram, Point
 from .points import vertex
 from .search_deadline import SearchDeadline
+from ..system.deadline import Deadline
 from ..system.errors import NodeLimit, SearchEnded
 from .branching import LEAST_GAP, STRONG_CANDIDATES, PseudocostBranching, Relaxed
 from .clp import LpStatus
+from .dual_bound import MultiplierKind, fits_certificate
+from .exact_leaf import exact_end
 from .fathoming import SMALLEST_INFEASIBILITY, Cutoff, Fathomer
 from .node import DOWN, Branch, Node, OpenNode, ProvedSubtree, join, least_open_bound
 from .tree import node_count
 from .work_limit import check_work
 
-INTEGRALITY_TOLERANCE = 1e-6  # how far from an integer a value counts as one
+# how far from an integer a value counts as one, of a column as CLP has it: multiplied by its factor
+INTEGRALITY_TOLERANCE = 1e-6
+LARGEST_FACTOR = 2.0**30  # that counts for this: beyond it doubles near 1 are not told apart
 ROUNDING_TOLERANCE = Fraction(1, 10**9)  # below an integer a value branches as if it were that
 LARGEST_EXACT_INTEGER = 2.0**53  # from here on doubles do not hold each integer
 CUTOFF_TOLERANCE = 1e-7  # of the cutoff: from that near a leaf is tried
@@ -47,6 +53,11 @@ class ImprovedIncumbent(NamedTuple):
 
     point: Point
     value: Fraction
+
+
+class NodeNotClosed(SearchEnded):
+    """A node can be neither closed nor branched on. The rest of the tree can be searched without
+    it, and a less demanding cutoff may close it."""
 
 
 def no_point(x: Sequence[float]) -> Optional[Point]:
@@ -119,6 +130,11 @@ class BranchAndBound:
         path = self.node.path
         return least_open_bound(self.node.open_nodes, path[-1].bound if path else -math.inf)
 
+    def set_cutoff(self, cutoff: Cutoff) -> None:
+        """Goes on for another cutoff, with whose leaves those that are proved must agree: theirs
+        hold for it where it is the value of a better point, or a less demanding one."""
+        self.fathomer.set_cutoff(cutoff)
+
     def run(self) -> Union[ProvedSubtree, ImprovedIncumbent]:
         """Searches the subtree that `node` was moved to, from where it stands.
 
@@ -128,8 +144,8 @@ class BranchAndBound:
 
         Raises:
             SearchPaused: Its seconds or nodes are over; it can go on.
-            SearchEnded: It cannot: an interrupt, MOST_NODES, too deep, or a leaf or relaxation that
-                fails.
+            NodeNotClosed: It stands in a node that fails; elsewhere it can go on.
+            SearchEnded: It cannot: an interrupt, MOST_NODES, or too deep.
         """
         while True:
             found = self.solve_node(self.node.last_branch())
@@ -191,14 +207,15 @@ class BranchAndBound:
 
         Raises:
             SearchPaused: The seconds or nodes are over; the node can be solved again.
-            SearchEnded: The search cannot go on, or CLP finds no end of the relaxation.
+            NodeNotClosed: CLP finds no end of the relaxation, or no leaf closes.
+            SearchEnded: The search cannot go on.
         """
         self.check_limits()
         changed = range(self.program.n) if branch is None else [branch.column]
         column = self.node.column_without_integers(changed)
         if column is not None:
             return self.fathomer.empty_domain(column)
-        self.node.clp.seconds = max(self.until - self.deadline.spent(), LEAST_RELAXATION_SECONDS)
+        self.node.clp.seconds = self._seconds_of_solve()
         state = LpStatus.OTHER
         for by_primal in (False, True):
             state = self.node.clp.solve(by_primal=by_primal)
@@ -211,7 +228,11 @@ class BranchAndBound:
             x = [self.node.nearest_to_zero(j) for j in range(self.program.n)]
             return self._branch_or_fathom(x, self.cutoff_value, state)
         self.deadline.check_search(self.nodes, self.until)  # CLP stops where the time is over
-        raise SearchEnded(f"a relaxation is {state.name.lower()}")
+        raise NodeNotClosed(f"a relaxation is {state.name.lower()}")
+
+    def _seconds_of_solve(self) -> float:
+        """That CLP may take for a relaxation: until the search pauses."""
+        return max(self.until - self.deadline.spent(), LEAST_RELAXATION_SECONDS)
 
     def _after_optimum(
         self, branch: Optional[Branch]
@@ -301,7 +322,7 @@ class BranchAndBound:
             SearchEnded: Where few nodes are not enough (then a SearchPaused), or a leaf does not
                 close.
         """
-        self.fathomer.set_cutoff(cutoff)
+        self.set_cutoff(cutoff)
         self.deadline = SearchDeadline()
         self.until = math.inf
         self.on_node = None
@@ -329,7 +350,7 @@ class BranchAndBound:
             x = self._exact_values(x)
         values = self._with_forms(x)
         distances = self._distances(values)
-        fractional = [j for j, distance in distances.items() if distance > INTEGRALITY_TOLERANCE]
+        fractional = [j for j, distance in distances.items() if distance > self._tolerance(j)]
         if fractional and fractional[0] < self.program.n:
             relaxed = Relaxed(values, bound, max(self.cutoff_value - bound, LEAST_GAP))
             column, direction = self.branching.choose(self.node, relaxed, fractional)
@@ -340,6 +361,16 @@ class BranchAndBound:
                 return improved
         return self._fathom_integer_point(x, distances, bound, state)
 
+    def _tolerance(self, column: int) -> float:
+        """How far from an integer the value of a column or form counts as one.
+
+        It is INTEGRALITY_TOLERANCE of the column as CLP has it: where that is multiplied, a value
+        that is near an integer may be far from it in the rows.
+        """
+        if column >= self.program.n:
+            return INTEGRALITY_TOLERANCE
+        return INTEGRALITY_TOLERANCE / min(self.node.clp.column_factors[column], LARGEST_FACTOR)
+
     def _fathom_integer_point(
         self, x: Sequence[float], distances: Dict[int, float], bound: float, state: LpStatus
     ) -> Union[Branch, ProvedSubtree, ImprovedIncumbent]:
@@ -347,7 +378,8 @@ class BranchAndBound:
         branch on a column that is not fixed.
 
         CLP's tolerances may hide that there is no better point, and so may what it calls
-        infeasible. So columns are branched on that are not fixed, until multipliers show it.
+        infeasible. So columns are branched on that are not fixed, until multipliers show it. Where
+        all are fixed, what is left is solved exactly.
 
         Args:
             x: Values of columns.
@@ -356,7 +388,7 @@ class BranchAndBound:
             state: OPTIMAL, or INFEASIBLE without a proof: then a point at x is looked for at last.
 
         Raises:
-            SearchEnded: All are fixed, and no leaf closes.
+            NodeNotClosed: All are fixed, and no leaf closes.
         """
         proved = self.fathomer.by_phase_one()
         if proved is not None:
@@ -371,8 +403,35 @@ class BranchAndBound:
         proved = self.fathomer.by_row()
         if proved is None:
             proved = self.fathomer.by_phase_one(SMALLEST_INFEASIBILITY)
+        return self._solve_leaf_exactly() if proved is None else proved
+
+    def _solve_leaf_exactly(self) -> Union[ProvedSubtree, ImprovedIncumbent]:
+        """Where all integer columns are fixed, and doubles show nothing: a better point, or a leaf
+        by exact multipliers.
+
+        What is left is a linear program, whose optimum in fractions is either better than the
+        cutoff, or has duals that reach it.
+
+        Raises:
+            NodeNotClosed: It is not solved exactly, or a certificate cannot hold its numbers.
+            SearchPaused: The seconds are over.
+        """
+        program, n = self.program, self.program.n
+        linear = program.with_bounds(self.node.box.lower[:n], self.node.box.upper[:n])
+        if self.cutoff.value is None:
+            linear = linear.without_costs()
+        check = partial(self.deadline.check_search, self.nodes, self.until)
+        ended = exact_end(linear, self.node.clp, check, Deadline(self._seconds_of_solve()))
+        if ended is None or ended.status is LpStatus.UNBOUNDED:
+            raise NodeNotClosed("a leaf does not close")
+        improved = None if ended.point is None else self._improved_by(ended.point)
+        if improved is not None:
+            return improved
+        is_infeasible = ended.status is LpStatus.INFEASIBLE
+        kind = MultiplierKind.FARKAS if is_infeasible else MultiplierKind.DUAL
+        proved = self.fathomer.by_fractions(ended.multipliers, kind)
         if proved is None:
-            raise SearchEnded("a leaf does not close")
+            raise NodeNotClosed("a leaf does not close")
         return proved
 
     def _has_large_integers(self, x: Sequence[float]) -> bool:
@@ -432,9 +491,18 @@ class BranchAndBound:
             point: Optional[Point] = [Fraction(round(v)) for v in x]
         else:
             point = self.exact_point(x)
-        if point is None or not program.is_feasible(point):
+        return None if point is None else self._improved_by(point)
+
+    def _improved_by(self, point: Point) -> Optional[ImprovedIncumbent]:
+        """The point, where it is feasible in the searched program and better than the cutoff.
+
+        Where the cutoff has a value, a point that a certificate cannot hold does not count: a leaf
+        is closed for a value that is a little worse than that of the best one that can be told.
+        """
+        is_told = self.cutoff.value is None or all(map(fits_certificate, point))
+        if not is_told or not self.program.is_feasible(point):
             return None
-        value = program.value(point)
+        value = self.program.value(point)
         return ImprovedIncumbent(point, value) if self.cutoff.is_improved_by(value) else None
 
     def _unfixed_column(self, distances: Dict[int, float]) -> Optional[int]:

@@ -8,6 +8,7 @@ from __future__ import annotations
 
 from dataclasses import dataclass, field
 from fractions import Fraction
+from functools import cached_property
 from typing import NamedTuple, Optional, Sequence
 
 from .search_deadline import SearchDeadline
@@ -15,12 +16,14 @@ from ..model.integer_form import IntegerProgram, Point
 from . import points
 from .clp import Clp, LpStatus, library
 from .evidence import AnswerByPlace, EvidenceStore, Number
+from .lattice_search import LatticeOptimum, lattice_optimum
 from .parallel import ParallelSearch
 from .portfolio import Portfolio
 from .relaxation import relaxation
 from .worker_pools import SearchProblem, WorkerPool
 
 ONE_LEAF_SECONDS = 1.0  # of the relaxation, where one leaf is tried alone
+LATTICE_SHARE = 0.4  # of the seconds that are left, for a search over a lattice
 
 
 @dataclass(frozen=True)
@@ -78,6 +81,15 @@ class CertificationTask:
 
     def __post_init__(self) -> None:
         self.is_linear = not any(self.program.is_integer)
+
+    @cached_property
+    def lattice_optimum(self) -> Optional[LatticeOptimum]:
+        """What an exact search over the lattice of the equations' solutions finds; None where the
+        program is too large for it, has no equations of integer columns, or they have no integer
+        solution. It is made when it is first asked for, within LATTICE_SHARE of what is left."""
+        self.deadline.tell_step("the lattice of the equations")
+        until = self.deadline.spent() + LATTICE_SHARE * self.deadline.left()
+        return lattice_optimum(self.program, lambda: self.deadline.check_search(0, until))
 
     def portfolio(self, program: IntegerProgram, value: Optional[Fraction]) -> Portfolio:
         """A portfolio that has not begun, for trees that no point of the program is better than the

@@ -33,7 +33,7 @@ from .branching import Pseudocosts, PseudocostBranching
 from .clp import library
 from .fathoming import Cutoff
 from .node import Branch, OpenNode, ProvedSubtree
-from .search import BranchAndBound, ExactPoint, ImprovedIncumbent
+from .search import BranchAndBound, ExactPoint, ImprovedIncumbent, NodeNotClosed
 from .work_limit import limit_work
 
 # how processes start: `fork` takes 3 ms for each, `spawn` 100 to 300
@@ -88,7 +88,8 @@ class WorkUnit(NamedTuple):
         open_nodes: Those in it that were worked partly, from its root on. What is proved of their
             siblings is replaced by a RemoteSubtree.
         pseudocosts: Of the whole search so far.
-        seconds: Of the wall, from when a process begins with it.
+        seconds: From when a process begins with it.
+        of_processor: They are of its processor time, not of the wall.
     """
 
     problem: bytes
@@ -96,6 +97,7 @@ class WorkUnit(NamedTuple):
     open_nodes: Sequence[OpenNode]
     pseudocosts: Pseudocosts
     seconds: float
+    of_processor: bool = False
 
 
 class UnitResult(NamedTuple):
@@ -105,16 +107,20 @@ class UnitResult(NamedTuple):
         proved: The subtree, where all of it is proved. Remote subtrees of the unit stand in it as
             they came.
         open_nodes: Else what is left of it, from its root to where the search stands.
-        pseudocosts: Those of the unit, and what it learnt.
+        learnt: What pseudocosts it learnt, without those that it was given.
         nodes: How many nodes more the subtree has; below 0 where more fell away than came.
         improved: A better point, where one was found; then the unit is as it was before.
+        why_not_closed: Why the node does not close where the search stands; empty where it may.
+        seconds: That the unit took, by its own clock.
     """
 
     proved: Optional[ProvedSubtree]
     open_nodes: List[OpenNode]
-    pseudocosts: Pseudocosts
+    learnt: Pseudocosts
     nodes: int
     improved: Optional[ImprovedIncumbent] = None
+    why_not_closed: str = ""
+    seconds: float = 0.0
 
 
 # searches of the last problems of this process by their pickled problem, but for those at work
@@ -134,22 +140,30 @@ def work(unit: WorkUnit) -> UnitResult:
     search = _search_cache.pop(unit.problem, None)
     if search is None:
         search = pickle.loads(unit.problem).search(SearchDeadline())
-    search.deadline = SearchDeadline()
+    deadline = SearchDeadline(of_processor=unit.of_processor)
+    search.deadline = deadline
     search.until = unit.seconds
     search.nodes = 0
     strong_candidates = search.branching.strong_candidates
     search.branching = PseudocostBranching(strong_candidates, unit.pseudocosts)
     search.node.move_to(unit.path, unit.open_nodes)
-    found = None
-    with contextlib.suppress(SearchPaused):
+    found, why_not_closed = None, ""
+    try:
         found = search.run()
-    pseudocosts = search.branching.pseudocosts
+    except NodeNotClosed as fault:
+        why_not_closed = fault.reason
+    except SearchPaused:
+        pass
+    learnt = search.branching.pseudocosts.less(unit.pseudocosts)
     if isinstance(found, ImprovedIncumbent):
-        return UnitResult(None, [], pseudocosts, search.nodes, found)
+        return UnitResult(None, [], learnt, search.nodes, found, "", deadline.spent())
     while len(_search_cache) >= MOST_CACHED_SEARCHES:
         _search_cache.pop(next(iter(_search_cache)))
     _search_cache[unit.problem] = search
-    return UnitResult(found, search.node.open_nodes, pseudocosts, search.nodes)
+    open_nodes = search.node.open_nodes
+    return UnitResult(
+        found, open_nodes, learnt, search.nodes, None, why_not_closed, deadline.spent()
+    )
 
 
 class PoolFailed(SearchEnded):
@@ -196,13 +210,18 @@ class WorkerPool:
             The future of what `work` returns or raises.
 
         Raises:
-            PoolFailed: No process can be started (`ProcessPool`).
+            PoolFailed: It is not taken, for whatever reason: no process can be started, or the
+                connection to a cluster has ended.
         """
         try:
-            return self.executor().submit(work, unit)
-        except BrokenExecutor:
+            with contextlib.suppress(BrokenExecutor):
+                return self.executor().submit(work, unit)
             self.stop()
-        return self.executor().submit(work, unit)
+            return self.executor().submit(work, unit)
+        except SearchEnded:
+            raise
+        except Exception as fault:  # whatever an executor ends by
+            raise PoolFailed(f"no processes for the search ({fault})") from None
 
     def stop(self) -> None:
         """Ends what is worked, as far as that goes. Units can be given again afterwards."""
@@ -235,10 +254,7 @@ class ProcessPool(WorkerPool):
             PoolFailed: The system starts no process.
         """
         with signals_blocked():  # a process begins with them blocked
-            try:
-                return super().submit(unit)
-            except (ImportError, NotImplementedError, OSError) as fault:
-                raise PoolFailed(f"no processes for the search ({fault})") from None
+            return super().submit(unit)
 
     def stop(self) -> None:
         """Ends all processes: they pause, or are broken off after GRACE_SECONDS. All have ended

@@ -5,6 +5,7 @@ It is rounded from whole numbers, column by column, and is never what a claim re
 
 from __future__ import annotations
 
+import math
 from array import array
 from typing import Any, Iterable, List, NamedTuple, Optional, Sequence, Tuple
 
@@ -58,6 +59,25 @@ class SparseColumns(NamedTuple):
             for _ in range(self.starts[j], self.starts[j + 1])
         )
         return self._replace(values=array("d", [a / scale for a, scale in zip(self.values, each)]))
+
+    def dominance(self, m: int) -> List[float]:
+        """By column: how many times the least coefficient of one of its rows its own one there is,
+        at most; at least 1. A big M is what makes it large.
+
+        Args:
+            m: The rows that count are the first m ones.
+        """
+        count = len(self.starts) - 1
+        rows = np.asarray(self.rows, dtype=np.int64)
+        sizes = np.abs(np.asarray(self.values, dtype=np.float64))
+        columns = np.repeat(np.arange(count), np.diff(np.asarray(self.starts, dtype=np.int64)))
+        counts = (rows < m) & (sizes > 0)
+        rows, sizes, columns = rows[counts], sizes[counts], columns[counts]
+        least = np.full(m, math.inf)
+        np.minimum.at(least, rows, sizes)
+        found = np.ones(count)
+        np.maximum.at(found, columns, sizes / least[rows])
+        return [float(ratio) for ratio in found]
 
 
 class DoubleProgram(NamedTuple):

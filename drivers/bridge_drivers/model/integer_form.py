@@ -150,6 +150,12 @@ class IntegerProgram:
         """The coefficients of rows in doubles, by column, for CLP."""
         return columns_of(self.matrix, self.row_scale)
 
+    @cached_property
+    def dominance(self) -> list[float]:
+        """By column, by how much its coefficients exceed the least ones of the file's own rows
+        (`SparseColumns.dominance`); it stays as it is when rows are added."""
+        return self.columns.dominance(self.constraint_count)
+
     def with_rows(self, added: Iterable[Row]) -> IntegerProgram:
         """The same program with more rows at its end, such as cuts; `constraint_count` stays.
 

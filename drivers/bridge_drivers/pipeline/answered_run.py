@@ -13,10 +13,11 @@ from typing import Sequence
 from ..exact.evidence import Evidence, not_proved
 from ..program.refusal import Refusal
 from ..program.verdict import FINAL, Statement, percentage, statement_of
-from ..solvers.base import Solver, SolverAnswer, SolverStatus
+from ..solvers.base import TIME_LIMIT, Solver, SolverAnswer, SolverStatus, limit_answer
 from ..solvers.run import SolverRun
 from ..system.codes import Code
 from ..system.errors import (
+    FAULTS,
     BridgeError,
     NotDecimal,
     NotReturned,
@@ -26,9 +27,11 @@ from ..system.errors import (
     UnusableAnswer,
 )
 from ..system.errors import Interrupted
+from ..system.text import one_line, shortened
 from .answer import Answer
 from .certification import AnswerCertifier, Returned
 from .monitor import LOGGER
+from .outcome import CODES_OF_WORDS
 from .resolution import Resolution, RunFacts, proved_duals, resolve
 from .settings import Settings
 from .stored_certificate import StoredCertificate
@@ -38,8 +41,9 @@ INTERRUPTED_WORDS = {
     SolverStatus.LIMIT_WITH_POINT: "interrupted with a feasible solution",
     SolverStatus.LIMIT: "interrupted without a feasible solution",
 }
+# of an answer that there is no point, or no best one, where the search knows better
+CONTRADICTED = "its own answer is contradicted by what was found, which no certificate can hold"
 # a search that ends by one of these proves nothing, and the answer stands as it is
-SEARCH_FAULTS = (ArithmeticError, AssertionError, LookupError, TypeError, ValueError)
 # what reading an answer raises where it is missing or in no known form
 ANSWER_FAULTS = (UnclearAnswer, NotDecimal, LookupError, ValueError, ArithmeticError)
 
@@ -113,8 +117,7 @@ class AnsweredRun:
 
         Where that misses the model by much, or says little, it is asked once more.
 
-        It is not asked at all where an integer column has no whole number between its bounds: that
-        is infeasible.
+        It is not asked at all where that is of no use (`_unasked`).
 
         Raises:
             SolverFailed: It has no answer, or says `infeasible or unbounded`, which
@@ -122,10 +125,8 @@ class AnsweredRun:
             NotStarted: It could not be run.
             Interrupted: The run was interrupted before there was an answer.
         """
-        if not self.run.settings.relax and self.run.program.has_empty_domain():
-            title = self.solver.title
-            note = f"{title} was not asked: a whole variable has no whole number between its bounds"
-            found = SolverAnswer(SolverStatus.INFEASIBLE, "infeasible", notes=[note])
+        found = self._unasked()
+        if found is not None:
             return Answer(self.run.program, found, self.settings)
         try:
             answer = self._asked()
@@ -142,8 +143,24 @@ class AnsweredRun:
             raise SolverFailed(self.solver.title, answer.found.text)
         return answer
 
+    def _unasked(self) -> SolverAnswer | None:
+        """The answer where the solver need not be asked, with a note that says why; else None.
+
+        An integer column without a whole number between its bounds is infeasible, and where the
+        time of the run is over, that is the answer.
+        """
+        title = self.solver.title
+        if not self.run.settings.relax and self.run.program.has_empty_domain():
+            note = f"{title} was not asked: a whole variable has no whole number between its bounds"
+            return SolverAnswer(SolverStatus.INFEASIBLE, "infeasible", notes=[note])
+        if self.judge.shares.deadline.is_over():
+            found = limit_answer(TIME_LIMIT)
+            found.notes.append(f"{title} was not asked: the time was over when the model was read")
+            return found
+        return None
+
     def _asked(self) -> Answer:
-        """Runs the solver once, and makes decimals of its answer.
+        """Runs the solver once, in its share of the time, and makes decimals of its answer.
 
         Where the user interrupted it, the solver's words say so.
 
@@ -154,6 +171,7 @@ class AnsweredRun:
         """
         try:
             self.run.remove_answers()
+            self.run.take_time(self.judge.shares.for_solver(self.solver.title))
             found = self.solver.solve(self.run)
             if self.run.is_interrupted:
                 default = f"interrupted; {found.text}"
@@ -178,10 +196,12 @@ class AnsweredRun:
             was: What the first answer was, in words behind `its first answer`.
 
         Returns:
-            None where the solver has no other way, was asked so before or was interrupted, or fails
-            again.
+            None where the solver has no other way, was asked so before or was interrupted, fails
+                again, or where the time is over.
         """
         if self.run.is_retry or not self.solver.retry_words or self.run.is_interrupted:
+            return None
+        if self.judge.shares.deadline.is_over():
             return None
         self.run.is_retry = True
         try:
@@ -197,24 +217,30 @@ class AnsweredRun:
     def _outcome_of(self, answer: Answer) -> Outcome:
         """The outcome of an answer: what is proved decides what is passed on, and is told of it.
 
-        Where the solver's `optimal` is contradicted it is asked once more, and its second answer is
+        Where what the solver says is contradicted it is asked once more, and its second answer is
         judged from the start.
 
         Raises:
             NotReturned: The proved program does not take the answer back.
         """
         verdict = self._verdict(answer)
-        if verdict.contradicts_answer and answer.code == Code.SOLVED:
+        if verdict.contradicts_answer and answer.code in (Code.SOLVED, *CODES_OF_WORDS):
             other = self._retried(words_of_first(answer.found))
             if other is not None:
                 return self._outcome_of(other)
         settings = self.settings.certificate
         gap = self.settings.solver_settings.mip_gap
-        facts = RunFacts(answer.residual, gap, settings.check, settings.strict)
+        facts = RunFacts(
+            answer.residual,
+            gap,
+            is_checked=settings.check,
+            is_proving=settings.prove,
+            is_strict=settings.strict,
+        )
         resolution = resolve(answer, verdict, facts)
         lines = self._notes_on_answer(answer, resolution)
         place = len(lines)  # where a line on the .sol stands
-        lines += self._notes_on_search(resolution)
+        lines += self._notes_on_search(answer, resolution)
         try:
             passed_on, sol = self._checked(resolution.answer, verdict, lines, place)
         except Refusal as fault:
@@ -246,23 +272,38 @@ class AnsweredRun:
             place = self.judge.named_place(residual.name)
             lines.append(f"its point misses {place} by {residual.relative:.2g} of the largest term")
         if resolution.text is not None:
-            lines.insert(0, "its own answer: " + self._head(answer).partition(": ")[2])
+            is_known = resolution.code == Code.LIMIT and answer.code in CODES_OF_WORDS
+            own = self._head(answer).partition(": ")[2]
+            lines.insert(0, CONTRADICTED if is_known else "its own answer: " + own)
         return lines
 
-    def _notes_on_search(self, resolution: Resolution) -> list[str]:
-        """Lines on the search: that the user ended it, and the objective of another point."""
+    def _notes_on_search(self, answer: Answer, resolution: Resolution) -> list[str]:
+        """Lines on the search.
+
+        They say how a limit of time was divided that the solver or the search reached, that the
+        user ended the search, the objective of another point, and that the solver's word alone
+        makes a proved point optimal.
+        """
         lines = []
+        shares = self.judge.shares.words()
+        if shares and (self.judge.is_out_of_time or TIME_LIMIT in answer.found.text):
+            lines.append(shares)
         if self.judge.is_interrupted:
             lines.append("interrupted: the search for a certificate was ended")
         if resolution.kind:
             objective = resolution.answer.objective_text()
             lines.append(f"{resolution.kind} point was found; objective {objective}")
+        if resolution.is_word:
+            lines.append(
+                f"that no point is better is the word of {self.solver.title}: "
+                "the point is proved, and no bound at it"
+            )
         return lines
 
     def _first_line(self, resolution: Resolution, passed_on: Answer, said: Statement | None) -> str:
         """The first line of the message.
 
-        It is the head, with what is proved of a gap, and what code 0 is not earned for.
+        It is the head, with what is proved of a gap, and why a code is not earned.
 
         Args:
             resolution: What is decided.
@@ -271,7 +312,7 @@ class AnsweredRun:
         """
         more = proved_gap_words(said) if passed_on.found.is_gap else ""
         if resolution.shortfall:
-            more += f" (code 100: {resolution.shortfall})"
+            more += f" (code {int(resolution.code)}: {resolution.shortfall})"
         return self._head(passed_on, corrected=resolution.text, more=more)
 
     def _head(self, answer: Answer, corrected: str | None = None, more: str = "") -> str:
@@ -342,10 +383,10 @@ class AnsweredRun:
             raise NotReturned(fault.text) from None
         except OSError as fault:
             return not_proved(f"{fault.filename}: {fault.strerror}")
-        except SEARCH_FAULTS as fault:
+        except FAULTS as fault:
             if self.settings.shows_faults:
                 raise
-            return not_proved(f"a fault of the driver: {fault!r}")
+            return not_proved(f"a fault of the driver: {shortened(one_line(repr(fault)))}")
 
 
 def with_proved_duals(answer: Answer, verdict: Evidence, told: str) -> Answer | None:

@@ -8,7 +8,7 @@ Nothing in it rests on this package: the certificate is a text about the model's
 from __future__ import annotations
 
 from fractions import Fraction
-from typing import Mapping, NamedTuple, Sequence
+from typing import Mapping, NamedTuple, Optional, Sequence
 
 from ..exact import clp
 from ..exact.worker_pools import WorkerPool, open_pool
@@ -19,7 +19,8 @@ from ..exact.search_deadline import SearchDeadline, SearchProgress
 from ..exact.task import SearchOptions
 from ..model.analysis import TOLERANCE_OF_INTEGERS, worst_residual
 from ..model.linear_program import EPIGRAPH_COLUMN
-from ..system.errors import ProgramFailed, UnsupportedModel
+from ..system.deadline import Deadline
+from ..system.errors import DeadlineExceeded, ProgramFailed, UnsupportedModel
 from ..system.signals import interrupts_to
 from ..program.bridge import Bridge
 from ..program.refusal import Refusal
@@ -33,12 +34,14 @@ from .answer_places import answer_by_place
 from .judge import CertificateJudge
 from .monitor import Monitor
 from .row_factors import whole_form
-from .settings import CERTIFICATE_SECONDS, Settings
+from .settings import Settings
 from .stored_certificate import CertificateStore, StoredCertificate
+from .time_shares import TimeShares
 
 ONE_LEAF_SECONDS = 1.0  # of a search without prove=1
 LARGE_PROGRAM = 400_000  # bytes of an exported program that have a second each
 LEAST_SHARE = 1e-15  # of the largest term: less is not told by doubles
+OUT_OF_TIME = "no verdict, since the time was over"
 PLACES = 9  # decimals that doubles are rounded to, where they do not pass as they are
 NO_SEARCH = (
     "prove=1 needs the library of CLP, which is not there (Debian: apt install coinor-libclp1)"
@@ -83,18 +86,26 @@ class AnswerCertifier:
         run: The solver's run, with the program and a folder for files.
         settings: Those of the whole run.
         monitor: Is told what goes on, and the seconds of each part.
+        shares: Of the time of the whole run.
         program: That of the run.
         is_mps: The model is an MPS file, of which no .sol is made: values are judged by a
             certificate.
         is_relaxed: The program has integer variables, and they are relaxed.
         is_interrupted: The last search for a certificate was ended by the user.
+        is_out_of_time: The last long search had all its time.
         pool_note: A line for the message on the processes that searched; "" where there is nothing
             to say.
         store: Keeps the certificate that is accepted.
     """
 
     def __init__(
-        self, bridge: Bridge, model: str, run: SolverRun, settings: Settings, monitor: Monitor
+        self,
+        bridge: Bridge,
+        model: str,
+        run: SolverRun,
+        settings: Settings,
+        monitor: Monitor,
+        shares: Optional[TimeShares] = None,
     ) -> None:
         """For one run of a solver, whose program decides what is judged how.
 
@@ -104,17 +115,21 @@ class AnswerCertifier:
             run: The solver's run, which need not have begun.
             settings: Those of the whole run.
             monitor: Is told what goes on.
+            shares: Of the time of the whole run; None for no limit.
         """
         self.bridge = bridge
         self.model = model
         self.run = run
         self.settings = settings
         self.monitor = monitor
+        self.shares = shares or TimeShares(Deadline())
         self.program = run.program
         self.is_mps = not run.program.is_exported
         self.is_relaxed = bool(run.program.integer_count) and run.settings.relax
         self.is_interrupted = False
+        self.is_out_of_time = False
         self.pool_note = ""
+        self._known: dict[str, float] = {}
         self.store = CertificateStore(
             bridge,
             model,
@@ -169,14 +184,23 @@ class AnswerCertifier:
             verdict: What is proved.
 
         Returns:
-            As `check_words` and `feasible_words`; or why the proved program refuses it.
+            As `check_words` and `feasible_words`; or why the proved program refuses it, or that the
+                time was over.
         """
+        try:
+            return self._checked_in_time(returned, verdict)
+        except DeadlineExceeded:
+            return OUT_OF_TIME
+
+    def _checked_in_time(self, returned: Returned, verdict: Evidence) -> str:
+        """As `checked`; raises DeadlineExceeded where the verdict takes too long."""
         answer, sol = returned
         if not self.is_mps and answer.duals is not None and self.run.is_continuous():
             path = self.run.path("bridge.sol")
             try:
                 with self.monitor.timing("check"):
-                    return self.check_words(self.bridge.check(self.model, path))
+                    deadline = self.shares.for_verdict()
+                    return self.check_words(self.bridge.check(self.model, path, deadline))
             except Refusal as fault:
                 return fault.text.removeprefix(path + ": ")
         values = read_sol(sol)[1] if sol else self._values_of_file(answer)
@@ -198,13 +222,16 @@ class AnswerCertifier:
 
         Args:
             values: A decimal for each of the file's variables.
+
+        Raises:
+            DeadlineExceeded: The verdict takes too long.
         """
         objective = 0 if self.is_mps else self.settings.objective
         text = "\n".join(lines_of_answer(values, [], objective)) + "\n"
         path = self.run.write("values.certificate", text.encode())
         try:
             with self.monitor.timing("check"):
-                judged = self.bridge.verify(self.model, path)
+                judged = self.bridge.verify(self.model, path, self.shares.for_verdict())
         except Refusal as fault:
             return fault.text.removeprefix(path + ": ")
         if judged.statement is not None and judged.statement.value is not None:
@@ -226,6 +253,7 @@ class AnswerCertifier:
         deadline = self._deadline(is_search=proves)
         judge = CertificateJudge(self.bridge, self.model, self.run.path("certificate"), deadline)
         pool = open_pool(settings.processes, settings.cluster) if proves else None
+        self._known = {}
         self.monitor.progress.begin("certificate", deadline.seconds)
         try:
             with self.monitor.timing("certify"):
@@ -238,6 +266,7 @@ class AnswerCertifier:
                 if pool.fault:
                     self.pool_note = "the search went on in one process: " + pool.fault
         self.is_interrupted = deadline.is_interrupted
+        self.is_out_of_time = proves and deadline.is_over()
         is_point = CLAIM_OF_STATUS[answer.found.status] is AnswerClaim.POINT
         is_open = is_point and not self.is_relaxed and not evidence.is_proved
         if is_open and len(self.program.text) > LARGE_PROGRAM:
@@ -248,16 +277,14 @@ class AnswerCertifier:
         """The time of a search.
 
         Args:
-            is_search: A long one: it has the limit, in seconds of the wall. Else it has a second of
-                the processor, or one for each LARGE_PROGRAM bytes of the program where that is
-                more, and at most the limit.
+            is_search: A long one: it has all of its share, in seconds of the wall. Else it has a
+                second of the processor, or one for each LARGE_PROGRAM bytes of the program where
+                that is more, and at most its share.
         """
-        limit = self.settings.time_limit or CERTIFICATE_SECONDS
         if is_search:
-            return SearchDeadline(limit)
+            return self.shares.for_search()
         by_size = len(self.program.text) / LARGE_PROGRAM
-        limit = min(max(by_size, ONE_LEAF_SECONDS), limit)
-        return SearchDeadline(limit, of_processor=True)
+        return self.shares.for_search(max(by_size, ONE_LEAF_SECONDS))
 
     def _by_answer_itself(
         self, judge: CertificateJudge, answer: Answer, evidence: Evidence
@@ -311,7 +338,7 @@ class AnswerCertifier:
         if not proves:
             judge.deadline.restart()
         given = answer_by_place(answer)
-        if given.duals is not None:
+        if given.duals is not None and factors:
             duals = {row: factors.get(row, 1) * dual for row, dual in given.duals.items()}
             given = given._replace(duals=duals)
         with interrupts_to(judge.deadline.interrupt):
@@ -325,15 +352,27 @@ class AnswerCertifier:
                 options=options,
                 pool=pool,
             )
+        if not factors:
+            return evidence
         exported = {row: dual / factors.get(row, 1) for row, dual in evidence.duals.items()}
         return evidence._replace(duals=exported)
 
     def _tell(self, progress: SearchProgress) -> None:
-        """Tells the line of progress what the search is at: its numbers, else its step in words."""
-        if progress.numbers:
-            self.monitor.progress.tell_numbers(progress.numbers)
+        """Tells the line of progress what the search is at: its step, and what is known so far.
+
+        A bound that is told beside `cuts` is no claim yet: while cuts are made, that of before
+        stays.
+        """
+        found = dict(progress.numbers)
+        if "cuts" in found:
+            found.pop("bound", None)
+        elif found:
+            self._known.pop("cuts", None)
+        self._known.update(found)
+        if progress.step:
+            self.monitor.progress.tell_step(progress.step, self._known)
         else:
-            self.monitor.progress.tell(progress.step)
+            self.monitor.progress.tell_numbers(self._known)
 
     def from_answer_itself(self, judge: CertificateJudge, answer: Answer) -> Evidence:
         """What an answer proves by itself: its values and duals are the certificate.

@@ -46,12 +46,14 @@ class RunFacts(NamedTuple):
         residual: What the solver's own values miss most.
         gap: The relative gap that was asked for; 0 for none.
         is_checked: The proved program was asked.
+        is_proving: A proof was asked for.
         is_strict: What is not proved is not solved.
     """
 
     residual: Residual = NO_RESIDUAL
     gap: float = 0.0
     is_checked: bool = True
+    is_proving: bool = False
     is_strict: bool = False
 
 
@@ -64,7 +66,9 @@ class Resolution(NamedTuple):
         text: What is told in place of the solver's own words; None where these hold.
         kind: What the point is beside the solver's: `a`, `a better`, `another`; "" where it is the
             same.
-        shortfall: What code 0 is not earned for, in words; "" where there is nothing to say.
+        shortfall: Why the code of the solver's status is not earned, in words; "" where there is
+            nothing to say.
+        is_word: That the point is optimal is the solver's word alone.
     """
 
     code: Code
@@ -72,6 +76,7 @@ class Resolution(NamedTuple):
     text: str | None = None
     kind: str = ""
     shortfall: str = ""
+    is_word: bool = False
 
 
 class ProvedPoint(NamedTuple):
@@ -110,6 +115,8 @@ def resolve(answer: Answer, verdict: Evidence, facts: RunFacts = RunFacts()) -> 
         return Resolution(code, answer.with_code(code), shortfall)
     if answer.values is None and answer.code == code:
         return Resolution(code, answer)
+    if shortfall:
+        return Resolution(code, answer.without_point(code), None, "", shortfall)
     return Resolution(code, answer.without_point(code), WORDS[code])
 
 
@@ -125,6 +132,7 @@ def findings_of(
         proved: What `proved_point` says of both; None where no point is proved.
     """
     said = statement_of(verdict.line) if verdict.is_proved else None
+    is_relaxed = answer.is_continuous and answer.program.integer_count > 0
     return Findings(
         said=answer.code,
         claim=verdict.claim,
@@ -132,14 +140,17 @@ def findings_of(
         is_gap=answer.found.is_gap,
         kind=proved.kind if proved else "",
         has_other_objective=_has_other_objective(answer, proved),
-        is_bound_met=said is not None and meets_bound(answer, proved, said),
+        is_bound_met=said is not None and is_bound_met(answer, proved, said, facts),
         is_within_gap=said is not None and is_within(said, facts.gap),
         violation=violation_of(answer, facts.residual),
         beats_bound=said is not None and beats_proved_bound(answer, said),
         is_contradicted=verdict.contradicts_answer,
+        is_relaxed=is_relaxed,
+        is_optimum_known=verdict.is_optimum_known,
         is_met_in_doubles=verdict.is_optimal_in_doubles,
         is_ray_open=verdict.may_be_unbounded,
         is_checked=facts.is_checked,
+        is_proving=facts.is_proving,
         is_strict=facts.is_strict,
     )
 
@@ -161,6 +172,29 @@ def violation_of(answer: Answer, residual: Residual) -> Violation:
         return Violation.MUCH
     rounding = ROUNDING_OF_A_ROW if answer.is_continuous else TOLERANCE_OF_INTEGERS
     return Violation.LITTLE if residual.relative > rounding else Violation.NOTHING
+
+
+def is_bound_met(
+    answer: Answer, proved: ProvedPoint | None, said: Statement, facts: RunFacts
+) -> bool:
+    """Whether the proved bound is so near to an objective that this is solved.
+
+    Where a proof was asked for, and of an integer program with a proved point, the bound is within
+    RELATIVE_GAP of that point's objective alone; else it is as `meets_bound` says.
+    """
+    if said.value is not None and (facts.is_proving or not answer.is_continuous):
+        return is_near(said)
+    return meets_bound(answer, proved, said)
+
+
+def is_near(said: Statement) -> bool:
+    """Whether a bound is proved within RELATIVE_GAP of the proved value, exactly.
+
+    It is |bound - value| <= RELATIVE_GAP * |value|, so that a value of 0 wants a bound of 0.
+    """
+    if said.bound is None or said.value is None:
+        return False
+    return abs(said.bound - said.value) <= RELATIVE_GAP * abs(said.value)
 
 
 def meets_bound(answer: Answer, proved: ProvedPoint | None, said: Statement) -> bool:
@@ -316,6 +350,8 @@ def _at_proved_point(
         moved = answer.moved_near(proved.values, duals, code)
     if shortfall == NOT_STRICT:
         return Resolution(code, moved, NOT_STRICT, kind, shortfall)
+    if ruling.is_word:
+        return Resolution(code, moved, is_word=True)
     keeps_words = code == answer.code or bool(shortfall) or answer.found.is_gap
     text = _words_of_code(answer, verdict, code)
     if not kind and keeps_words:

@@ -10,8 +10,6 @@ from typing import Optional
 
 from ..solvers.settings import SolverSettings
 
-CERTIFICATE_SECONDS = 60.0  # of the search for a certificate, where no limit of time is given
-
 
 @dataclass(frozen=True)
 class CertificateSettings:
@@ -49,9 +47,9 @@ class Settings:
         solver: The name of the solver, a key of `solvers.SOLVERS`.
         solver_path: Its executable, where that is not on the PATH.
         bridge: The words that start the proved program; "" looks for it.
-        solver_settings: What the solver is asked; its limit of time is set by `time_limit`.
-        time_limit: Seconds of the solver, and again of the search for a certificate; 0 for no limit
-            of the solver, and CERTIFICATE_SECONDS of the search.
+        solver_settings: What the solver is asked; its limit of time is a share of `time_limit`.
+        time_limit: Seconds of the whole run, which `time_shares` divides; 0 for no limit, but of
+            the search for a certificate, and infinite for none at all.
         certificate: What is asked of the search for a certificate.
         objective: Which objective of the model, from 0.
         round_integers: Values of integer variables within 1e-5 of a whole number become that number.

@@ -73,8 +73,10 @@ class Coin(Solver):
     progress_patterns = (
         r"Cbc0010I After (?P<nodes>\d+) nodes, (?P<open>\d+) on tree, (?P<incumbent>\S+) best "
         r"solution, best possible (?P<bound>\S+)",
-        r"Cbc0012I Integer solution of (?P<incumbent>\S+) found",
-        r"Cbc0004I Integer solution of (?P<incumbent>\S+) found",
+        r"Cbc00(?:04|12|16)I Integer solution of (?P<incumbent>\S+) found",
+        r"Cbc0038I (?:Solution found of|Rounding solution of) (?P<incumbent>\S+)",
+        r"Cbc0013I At root node, .* changed objective from \S+ to (?P<bound>\S+) in",
+        r"^Continuous objective value is (?P<bound>\S+) -",
         r"Clp0006I +(?P<iterations>\d+) +Obj (?P<objective>\S+)",
     )
 

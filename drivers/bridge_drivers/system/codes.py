@@ -22,6 +22,9 @@ class Code(enum.IntEnum):
     UNBOUNDED = 300
     LIMIT_WITH_POINT = 400
     LIMIT = 450
+    SAID_INFEASIBLE = 460  # the solver says 200, and nothing proves it
+    SAID_INFEASIBLE_OR_UNBOUNDED = 465  # it says 290: which of both is not known
+    SAID_UNBOUNDED = 470  # it says 300, and nothing proves it
     REFUSED = 501  # the proved program takes no such model
     BAD_OPTION = 502
     NOT_FOUND = 503  # the proved program or the solver

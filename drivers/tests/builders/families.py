@@ -443,6 +443,23 @@ def job_shop(jobs: int, machines: int, rnd: random.Random) -> bytes:
     return program(columns, rows, {end: 1})
 
 
+def tour(cities: int, rnd: random.Random) -> bytes:
+    """A shortest tour, by the order of cities (Miller, Tucker and Zemlin 1960)."""
+    at = [(rnd.randint(0, 100), rnd.randint(0, 100)) for _ in range(cities)]
+    arcs = [(i, k) for i in range(cities) for k in range(cities) if i != k]
+    columns = [real(1, cities - 1)] * (cities - 1) + [BINARY] * len(arcs)
+    first = cities - 1
+    rows: List[RowParts] = []
+    for end in (0, 1):
+        for city in range(cities):
+            rows.append((1, 1, ones(first + a for a, arc in enumerate(arcs) if arc[end] == city)))
+    for a, (i, k) in enumerate(arcs):
+        if i and k:
+            rows.append((None, cities - 2, {i - 1: 1, k - 1: -1, first + a: cities - 1}))
+    costs = {first + a: round(math.dist(at[i], at[k])) for a, (i, k) in enumerate(arcs)}
+    return program(columns, rows, costs)
+
+
 FAMILIES: Dict[str, Callable[[int, random.Random], bytes]] = {
     "transport": transport,
     "assignment": assignment,
@@ -463,6 +480,11 @@ FAMILIES: Dict[str, Callable[[int, random.Random], bytes]] = {
     "pigeons": pigeons,
     "frobenius": frobenius,
     "split": split,
+    "gap": lambda size, rnd: assigned(5, 4 * size, rnd),
+    "color": lambda size, rnd: colouring(size, 6, rnd),
+    "lotsize": lambda size, rnd: shared_lots(3, size, rnd),
+    "tspmtz": tour,
+    "cfl": lambda size, rnd: location(size // 3, size, rnd, has_room=True),
 }
 DEPOTS = functools.partial(location, has_room=True)
 SEEDED: Mapping[str, Tuple[Any, ...]] = {

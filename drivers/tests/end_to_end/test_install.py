@@ -11,6 +11,7 @@ from running.places import DRIVERS
 from running.workspace import Call, Workspace
 
 HOME = {"HOME": "FOLDER"}
+OTHER_HOME = {"HOME": "FOLDER/home"}  # the prefix is not below it
 
 
 def test_below_the_home_folder(workspace: Workspace) -> None:
@@ -54,3 +55,71 @@ def test_another_program(workspace: Workspace) -> None:
     ended = workspace.run(driver, *words, environment={"BRIDGE": ""})
     taken = prefix / "lib" / "bridge-drivers" / "bin" / "bridge"
     assert str(taken) in ended.out.replace("'", "")
+
+
+PROVED = "echo bad words >&2; exit 3"  # what the proved program does without words
+
+
+def test_what_is_no_bridge_is_refused(workspace: Workspace) -> None:
+    """Nothing is installed then."""
+    workspace.script("other", "exit 0")
+    workspace.check(
+        Call(
+            "drivers/install FOLDER/prefix --bridge FOLDER/other",
+            1,
+            environment=OTHER_HOME,
+            prints=["not the program `bridge` of this project"],
+            files={"prefix": False},
+        )
+    )
+
+
+def test_all_can_read_what_is_installed(workspace: Workspace) -> None:
+    """Also where new files of the user are private: the folders can be entered, the files read."""
+    workspace.script("bridge", PROVED)
+    install = f"umask 077; '{DRIVERS / 'install'}' FOLDER/prefix --bridge FOLDER/bridge"
+    workspace.check(Call(install, environment=OTHER_HOME, is_shell=True))
+    modes = {path: path.stat().st_mode for path in workspace.path("prefix").rglob("*")}
+    assert modes
+    private = [path for path, mode in modes.items() if mode & 0o044 != 0o044]
+    closed = [path for path, mode in modes.items() if path.is_dir() and mode & 0o011 != 0o011]
+    assert not private and not closed
+
+
+@pytest.mark.parametrize("linked", ["lib", "bin", "share"])
+def test_folders_that_are_links(workspace: Workspace, linked: str) -> None:
+    """The commands run, and after removing the link and its empty folder are still there."""
+    workspace.script("bridge", PROVED)
+    prefix = workspace.path("prefix")
+    (workspace.path("elsewhere") / linked).mkdir(parents=True)
+    prefix.mkdir()
+    (prefix / linked).symlink_to(workspace.path("elsewhere") / linked)
+    install = "drivers/install FOLDER/prefix"
+    workspace.check(Call(f"{install} --bridge FOLDER/bridge", environment=OTHER_HOME))
+    ended = workspace.run(str(prefix / "bin" / "nl-bridge"), "version")
+    assert ended.status == 0, ended.text
+    workspace.check(Call(f"{install} --remove", environment=OTHER_HOME))
+    assert [path.name for path in prefix.iterdir()] == [linked]
+    assert not list((workspace.path("elsewhere") / linked).iterdir())
+
+
+def test_pages_examples_and_what_is_left_to_do(workspace: Workspace) -> None:
+    """Each command has a man page; what is said to be left is what this prefix lacks."""
+    workspace.script("bridge", PROVED)
+    install = "drivers/install FOLDER/prefix --bridge FOLDER/bridge"
+    package = "FOLDER/prefix/lib/bridge-drivers"
+    workspace.check(
+        Call(
+            install,
+            environment=OTHER_HOME,
+            prints=[f"PYTHONPATH={package}", "MZN_SOLVER_PATH=FOLDER/prefix/share"],
+            files={"prefix/share/nl-bridge/examples/knap.nl": True},
+        )
+    )
+    pages = workspace.path("prefix") / "share" / "man" / "man1"
+    commands = {path.name for path in (DRIVERS / "bin").iterdir()}
+    assert {path.stem for path in pages.iterdir()} == commands
+    assert "AMPL drivers around" in (pages / "bridge-cbc.1").read_text()
+    workspace.check(
+        Call(install, environment={**OTHER_HOME, "PYTHONPATH": package}, lacks=["PYTHONPATH="])
+    )

@@ -76,7 +76,9 @@ def test_fields_of_the_wheel(packages: Packages) -> None:
     with zipfile.ZipFile(packages.wheel) as wheel:
         names = [name for name in wheel.namelist() if name.endswith(".dist-info/METADATA")]
         text = wheel.read(names[0]).decode()
-    assert "Provides-Extra: pulp\nRequires-Dist: pulp; extra == 'pulp'\n" in text
+    assert "\nProvides-Extra: pulp\n" in text
+    assert re.search(r"^Requires-Dist: pulp ?; extra == 'pulp'$", text, re.MULTILINE)
+    assert "\nSummary: UNPROVED bridge" in text
 
 
 @pytest.mark.needs("lintian")

@@ -90,7 +90,8 @@ def _any_solver() -> str:
 def _packages() -> str:
     if sys.version_info < (3, 11):
         return "packages are built by Python 3.11 or later"
-    return why_missing("dpkg-deb") or why_missing("program")
+    needs = ("dpkg-buildpackage", "dh", "setuptools", "wheel", "program")
+    return next(filter(None, map(why_missing, needs)), "")
 
 
 WHY_MISSING: Mapping[str, Callable[[], str]] = {
@@ -101,6 +102,7 @@ WHY_MISSING: Mapping[str, Callable[[], str]] = {
     "solver": _any_solver,
     "packages": _packages,
     **{
-        name: functools.partial(_module, name) for name in ("pulp", "scipy", "numpy", "distributed")
+        name: functools.partial(_module, name)
+        for name in ("pulp", "scipy", "numpy", "distributed", "setuptools", "wheel")
     },
 }

@@ -10,6 +10,7 @@ import pytest
 from bridge_drivers.exact.evidence import Evidence
 from bridge_drivers.model.linear_program import LinearProgram
 from bridge_drivers.pipeline.answer import Answer
+from bridge_drivers.pipeline.outcome import BOUND_AWAY, NO_BOUND, NO_EXACT_POINT
 from bridge_drivers.pipeline.resolution import Resolution, RunFacts, resolve
 from bridge_drivers.pipeline.settings import Settings
 from bridge_drivers.solvers.base import SolverAnswer, SolverStatus
@@ -43,6 +44,8 @@ class Case(NamedTuple):
         words: The code in words, where the solver's own do not hold.
         shortfall: What code 0 is not earned for.
         gap: That was asked for and reached; "" where none was.
+        proves: A proof was asked for.
+        knows_optimum: An exact optimum is known that no certificate holds.
     """
 
     program: str
@@ -55,6 +58,8 @@ class Case(NamedTuple):
     words: str = ""
     shortfall: str = ""
     gap: str = ""
+    proves: bool = False
+    knows_optimum: bool = False
 
 
 CASES = (
@@ -190,9 +195,59 @@ CASES = (
     Case(
         "whole", S.UNBOUNDED, "", "bound 5", C.LIMIT, "", "", "stopped without a feasible solution"
     ),
-    Case("whole", S.INFEASIBLE, "", "bound 5", C.INFEASIBLE, ""),
-    Case("linear", S.OPTIMAL, "5", "bound 5", C.SOLVED, "5"),
-    Case("linear", S.OPTIMAL, "5", "bound 1250001/250000", C.SOLVED, "5"),
+    Case(
+        "whole", S.INFEASIBLE, "", "bound 5", C.SAID_INFEASIBLE, "", shortfall="nothing proves it"
+    ),
+    Case(
+        "whole",
+        S.INFEASIBLE,
+        "",
+        "not proved: x",
+        C.LIMIT,
+        "",
+        words="stopped without a feasible solution",
+        knows_optimum=True,
+    ),
+    Case("linear", S.OPTIMAL, "5", "bound 5", C.SOLVED, "5", knows_optimum=True),
+    Case("linear", S.OPTIMAL, "5", "bound 1250001/250000", C.SOLVED, "5", knows_optimum=True),
+    Case("linear", S.OPTIMAL, "5", "bound 5", C.UNSURE, "5", shortfall=NO_EXACT_POINT),
+    Case(
+        "linear",
+        S.OPTIMAL,
+        "5",
+        "bound 5",
+        C.UNSURE,
+        "5",
+        shortfall=NO_EXACT_POINT,
+        proves=True,
+        knows_optimum=True,
+    ),
+    Case("whole", S.OPTIMAL, "5", "within 9 5", C.UNSURE, "5", shortfall=BOUND_AWAY, proves=True),
+    Case("whole", S.OPTIMAL, "5", "feasible 5", C.UNSURE, "5", shortfall=NO_BOUND, proves=True),
+    Case("whole", S.OPTIMAL, "5", "within 1250001/250000 5", C.SOLVED, "5", proves=True),
+    Case(
+        "whole",
+        S.OPTIMAL,
+        "3",
+        "within 1250001/250000 5",
+        C.SOLVED,
+        "5",
+        "a better",
+        "optimal solution",
+    ),
+    Case("whole", S.OPTIMAL, "5", "within 6 5", C.SOLVED, "5", gap="0.5", proves=True),
+    Case("linear", S.OPTIMAL, "5", "within 1250001/250000 5", C.SOLVED, "5", proves=True),
+    Case("linear", S.OPTIMAL, "0", "within 1/10000000 0", C.SOLVED, "0"),
+    Case(
+        "linear",
+        S.OPTIMAL,
+        "0",
+        "within 1/10000000 0",
+        C.UNSURE,
+        "0",
+        shortfall=BOUND_AWAY,
+        proves=True,
+    ),
     Case(
         "linear",
         S.OPTIMAL,
@@ -301,7 +356,7 @@ CASES = (
 
 def resolution(case: Case) -> Resolution:
     """The value of a claim is its last word, but of a bound."""
-    found = SolverAnswer(case.status, "told", is_gap=bool(case.gap))
+    found = SolverAnswer(case.status, "told", is_gap=bool(case.gap) and not case.proves)
     if case.value:
         found.values = [float(case.value)]
     is_proved = not case.line.startswith("not")
@@ -311,8 +366,10 @@ def resolution(case: Case) -> Resolution:
         value = Fraction(case.line.split()[-1])
         point = [value * 10**9 if case.program == "small" else value]
     verdict = Evidence(case.line, point, b"kept" if is_proved else None, "", value)
+    is_denied = case.knows_optimum and case.status is S.INFEASIBLE
+    verdict = verdict._replace(is_optimum_known=case.knows_optimum, contradicts_answer=is_denied)
     answer = Answer(LinearProgram.of(PROGRAMS[case.program]), found, Settings())
-    return resolve(answer, verdict, RunFacts(gap=float(case.gap or 0)))
+    return resolve(answer, verdict, RunFacts(gap=float(case.gap or 0), is_proving=case.proves))
 
 
 @pytest.mark.parametrize("case", CASES)

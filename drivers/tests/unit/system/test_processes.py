@@ -6,6 +6,7 @@ import os
 import signal
 import subprocess
 import sys
+import threading
 import time
 from pathlib import Path
 from typing import Callable, List, Sequence
@@ -362,3 +363,39 @@ def test_the_second_interrupt_ends_the_run(tmp_path: Path) -> None:
         child.send_signal(signal.SIGINT)
         assert child.wait(PATIENCE) == 130
     wait_until_gone(found)
+
+
+def test_lines_come_as_they_are_written(tmp_path: Path) -> None:
+    """A program of the C library holds its output back where that is a pipe, unless it is told."""
+    fifo, told = tmp_path / "fifo", threading.Event()
+    os.mkfifo(fifo)
+    came = []
+
+    def feed() -> None:
+        """Gives grep a line, and ends its input once that line came back."""
+        with open(fifo, "w", encoding="ascii") as file:
+            file.write("here\n")
+            file.flush()
+            came.append(told.wait(PATIENCE))
+
+    feeder = threading.Thread(target=feed)
+    feeder.start()
+    done = run(
+        ["grep", "here", str(fifo)],
+        Deadline(2 * PATIENCE),
+        on_line=lambda line: told.set(),
+        by_lines=True,
+    )
+    feeder.join()
+    assert (done.output, came) == (b"here\n", [True])
+
+
+def test_a_program_that_is_not_there_is_told_by_lines_too() -> None:
+    with pytest.raises(FileNotFoundError):
+        run(["/nonexistent/grep"], Deadline(PATIENCE), by_lines=True)
+
+
+def test_without_the_library_of_buffers(monkeypatch: pytest.MonkeyPatch) -> None:
+    monkeypatch.setattr(processes, "BUFFER_LIBRARIES", ("/nonexistent",))
+    assert processes.line_buffering() == {}
+    assert run(["echo", "x"], Deadline(PATIENCE), by_lines=True).output == b"x\n"
