@@ -64,6 +64,11 @@ class Subtree:
     is_dropped: bool = False
     why_not_closed: str = ""
 
+    def node_count(self) -> int:
+        """The nodes that its search has so far, branching ones and proved ones."""
+        siblings = (node.sibling for node in self.open_nodes if node.sibling is not None)
+        return len(self.open_nodes) + sum(node_count(sibling.tree) for sibling in siblings)
+
     def dual_bound(self) -> float:
         """No point in it is better than this, minimised, as far as its relaxations say."""
         return least_open_bound(self.open_nodes, self.bound)
@@ -402,9 +407,7 @@ class ParallelSearch:
         yield from (node_count(p.tree) for at, p in self.proved.items() if at.startswith(place))
         for subtree in self.subtrees():
             if subtree.place.startswith(place) and not subtree.is_dropped:
-                siblings = (node.sibling for node in subtree.open_nodes if node.sibling is not None)
-                proved = sum(node_count(sibling.tree) for sibling in siblings)
-                yield len(subtree.open_nodes) + proved
+                yield subtree.node_count()
 
     def _drop(self, place: str) -> None:
         """Forgets the branches and proofs at a place and below it, and marks the subtrees there as

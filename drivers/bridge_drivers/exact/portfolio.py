@@ -551,13 +551,18 @@ class Portfolio:
         is_done = not loop.is_over(until) or preparation.is_in_vain()
         if not is_done and closed_share < ENOUGH_CLOSED[name]:
             return
-        count = sum(bool(strategy.cuts) for strategy in self.strategies)
-        if is_done or name != CLIQUE or count >= MOST_STRATEGIES_BELOW_CUTS:
+        if is_done or not self._takes_more_cuts(name):
             preparation.names.pop(0)
         if cuts and (closed_share >= LEAST_CLOSED_SHARE or self.has_no_value):
             estimate = self._estimate_below_cuts(closed_share)
             self.begin(name, cuts).first_estimate = estimate
         preparation.begin_next()
+
+    def _takes_more_cuts(self, name: str) -> bool:
+        """Whether behind the strategy that is prepared another one of this name may come, below
+        more cuts."""
+        count = sum(bool(strategy.cuts) for strategy in self.strategies)
+        return name == CLIQUE and count < MOST_STRATEGIES_BELOW_CUTS
 
     def _estimate_below_cuts(self, closed_share: float) -> float:
         """Seconds that a search below cuts seems to take, which close such a share of the gap that

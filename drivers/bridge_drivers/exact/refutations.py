@@ -108,7 +108,9 @@ class Refuter:
             if evidence.is_proved:
                 yield evidence._replace(duals={})
 
-    def by_rational_simplex(self, answer: AnswerByPlace = AnswerByPlace()) -> Iterator[Evidence]:
+    def by_rational_simplex(
+        self, answer: AnswerByPlace = AnswerByPlace(), seconds: float = math.inf
+    ) -> Iterator[Evidence]:
         """Yields what is true of a small linear program, from the basis of an answer, by the
         simplex method in fractions.
 
@@ -119,10 +121,11 @@ class Refuter:
         Args:
             answer: Its basis and values are where the method begins; without them, at the rows'
                 basis and near 0.
+            seconds: That it may take, beside the deadline.
         """
         self.task.deadline.tell_step("the simplex method in fractions")
         try:
-            ended = self._run_rational_simplex(self.program, answer)
+            ended = self._run_rational_simplex(self.program, answer, seconds)
         except SearchEnded as late:
             yield not_proved(late)
             return
@@ -221,18 +224,21 @@ class Refuter:
         return self.store.claim_of_tree(portfolio.best)
 
     def _run_rational_simplex(
-        self, program: IntegerProgram, answer: AnswerByPlace
+        self, program: IntegerProgram, answer: AnswerByPlace, seconds: float = math.inf
     ) -> SimplexResult:
         """Runs the simplex method in fractions, from the basis of an answer, or from that of the
         rows.
 
         Args:
             program: The task's, or a cone or relaxation of it with as many columns.
+            seconds: That it may take, beside the deadline.
 
         Raises:
             SearchEnded: The time is over, or an interrupt came.
         """
-        tableau = RationalSimplex(program, lambda: self.task.deadline.check_search(0, math.inf))
+        deadline = self.task.deadline
+        until = deadline.spent() + seconds
+        tableau = RationalSimplex(program, lambda: deadline.check_search(0, until))
         columns = answer.basis.columns if answer.basis is not None else []
         tableau.install_basis(columns, answer.doubles() or [0.0] * program.n)
         return tableau.run()

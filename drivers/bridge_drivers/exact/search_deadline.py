@@ -110,11 +110,11 @@ class SearchDeadline(Deadline):
         """Seconds since its start by its clock, with those that were counted elsewhere."""
         return super().spent() + self._elsewhere
 
-    def count_elsewhere(self, seconds: float) -> None:
-        """Adds seconds that the search took in other processes, shared among these, where the limit
-        is in processor time."""
+    def count_elsewhere(self, taken: float) -> None:
+        """Adds what the search took in other processes, in seconds shared among these, where the
+        limit is in processor time."""
         if self.of_processor:
-            self._elsewhere += seconds
+            self._elsewhere += taken
 
     def to_find(self) -> Deadline:
         """The deadline of exact work and of CLP's solves, until what is known is told: the limit,

@@ -15,12 +15,25 @@ import importlib
 import multiprocessing
 import os
 import pickle
+import queue
 import signal
 import sys
 import threading
 from concurrent.futures import BrokenExecutor, Executor, Future, ProcessPoolExecutor
 from multiprocessing import connection
-from typing import Any, Dict, Iterable, Iterator, List, NamedTuple, Optional, Sequence
+from typing import (
+    Any,
+    Callable,
+    Dict,
+    Iterable,
+    Iterator,
+    List,
+    NamedTuple,
+    Optional,
+    Sequence,
+    Tuple,
+    TypeVar,
+)
 
 from . import points
 from .search_deadline import SearchDeadline
@@ -39,9 +52,13 @@ from .work_limit import limit_work
 # how processes start: `fork` takes 3 ms for each, `spawn` 100 to 300
 START_METHOD = "fork" if sys.platform == "linux" else None
 GRACE_SECONDS = 1.0  # that a unit has to end when its process is ended
-CONNECT_SECONDS = 10.0  # for a scheduler to answer
+CONNECT_SECONDS = 10.0  # for a scheduler and its workers to answer
+LEAVE_SECONDS = 2.0  # for a scheduler to let this process go
 EXACT_POINT_SECONDS = 30.0
 MOST_CACHED_SEARCHES = 2  # of one process
+
+
+Answer = TypeVar("Answer")
 
 
 class SearchProblem(NamedTuple):
@@ -269,32 +286,80 @@ class ProcessPool(WorkerPool):
             self._end_line.close()
 
 
+def answered_within(seconds: float, ask: Callable[[], Answer], what: str) -> Answer:
+    """What a call answers that may never return: it is made in a thread of its own, and left there.
+
+    Args:
+        seconds: That it has.
+        ask: The call; what it raises is raised here.
+        what: Has not answered, in words.
+
+    Raises:
+        PoolFailed: The time is over.
+    """
+    answers: "queue.Queue[Tuple[Any, Optional[BaseException]]]" = queue.Queue()
+
+    def run() -> None:
+        """Makes the call, and hands over what it answers or raises."""
+        try:
+            answers.put((ask(), None))
+        except BaseException as fault:  # it is raised where it is waited for
+            answers.put((None, fault))
+
+    threading.Thread(target=run, daemon=True).start()
+    try:
+        answer, fault = answers.get(timeout=seconds)
+    except queue.Empty:
+        raise PoolFailed(f"{what} did not answer in {seconds:.3g} seconds") from None
+    if fault is not None:
+        raise fault
+    found: Answer = answer
+    return found
+
+
 class DaskPool(WorkerPool):
     """Those workers of a cluster that have this package and CLP.
 
-    What they have begun they end, some seconds after it is not wanted any more.
+    Whoever reaches the scheduler runs code as the users of its workers, and what they send back is
+    unpickled here: a cluster is trusted. What workers have begun they end, some seconds after it is
+    not wanted any more.
 
     Args:
         address: Of the scheduler.
+        seconds: In which the scheduler, and then its workers, have to answer.
 
     Raises:
         PoolFailed: There is no package, no scheduler, or no worker that can search.
     """
 
-    def __init__(self, address: str) -> None:
+    def __init__(self, address: str, seconds: float = CONNECT_SECONDS) -> None:
         """Connects to the scheduler, and asks all workers for their version. `workers` becomes the
         threads of those that are fit, and `note` says where others are not."""
+        scheduler = f"the scheduler of Dask at {address}"
         try:
             distributed: Any = importlib.import_module("distributed")
-            self.client = distributed.Client(address, timeout=CONNECT_SECONDS)
+            self.client = answered_within(
+                seconds, lambda: distributed.Client(address, timeout=seconds), scheduler
+            )
         except ImportError:
             raise PoolFailed(
                 "cluster= needs Dask's package distributed (Debian: apt install "
                 "python3-distributed)"
             ) from None
-        except (OSError, ValueError) as fault:
+        except PoolFailed:
+            raise
+        except Exception as fault:  # of the library, or of an address that it does not understand
             raise PoolFailed(f"no scheduler of Dask at {address} ({fault})") from None
-        versions = self.client.run(worker_version, on_error="return")
+        try:
+            versions = answered_within(
+                seconds,
+                lambda: self.client.run(worker_version, on_error="return"),
+                f"a worker of {scheduler}",
+            )
+        except Exception as fault:
+            self.close()
+            told = str(fault) if isinstance(fault, PoolFailed) else f"{scheduler}: {fault}"
+            raise PoolFailed(told) from None
         fit = [worker for worker, version in versions.items() if version == VERSION]
         super().__init__(sum(self.client.nthreads(fit).values()) if fit else 0)
         if len(fit) < len(versions):
@@ -303,13 +368,14 @@ class DaskPool(WorkerPool):
                 f"bridge_drivers {VERSION} or CLP's library"
             )
         if not fit:
-            self.client.close()
+            self.close()
             raise PoolFailed(self.note or f"the scheduler of Dask at {address} has no workers")
         self._started = self.client.get_executor(pure=False, workers=fit)
 
     def close(self) -> None:
-        """Leaves the cluster."""
-        self.client.close()
+        """Leaves the cluster, whether it answers or not."""
+        with contextlib.suppress(Exception):
+            answered_within(LEAVE_SECONDS, self.client.close, "the scheduler of Dask")
 
 
 def worker_version() -> str:
@@ -318,12 +384,14 @@ def worker_version() -> str:
     return VERSION if library() is not None else ""
 
 
-def open_pool(jobs: int, address: str) -> Optional[WorkerPool]:
+def open_pool(jobs: int, address: str, seconds: float = CONNECT_SECONDS) -> Optional[WorkerPool]:
     """The pool that a run asks for, of which no process is started yet.
 
     Args:
         jobs: Processes of this machine; 0: as many as this process may use processors.
         address: Of a scheduler of Dask, in place of these; "" for none.
+        seconds: That the whole search has: the scheduler and its workers have half of it to answer,
+            and at most CONNECT_SECONDS.
 
     Returns:
         None where this process searches alone. A cluster that cannot be had is a pool of no workers
@@ -331,7 +399,7 @@ def open_pool(jobs: int, address: str) -> Optional[WorkerPool]:
     """
     if address:
         try:
-            return DaskPool(address)
+            return DaskPool(address, min(CONNECT_SECONDS, max(seconds, 0.0) / 4))
         except PoolFailed as fault:
             return WorkerPool(0, str(fault))
     jobs = jobs or usable_processors()

@@ -9,6 +9,7 @@ from __future__ import annotations
 import math
 import os
 import shlex
+from fractions import Fraction
 from typing import Any, Callable, Dict, List, Mapping, NamedTuple, Sequence
 
 from ..solvers import SOLVERS
@@ -16,6 +17,7 @@ from ..solvers.settings import SolverOption, SolverSettings
 from ..system.errors import WrongOption
 from ..system.text import did_you_mean, shortened
 from .settings import CertificateSettings, OutputSettings, Settings
+from .start_point import Start
 
 WRITTEN_SOL = 1  # parts of `wantsol`
 PRINTED_VALUES = 2
@@ -115,6 +117,16 @@ def _choice(*known: str) -> Callable[[Any], str]:
     return take
 
 
+def _start(value: Any) -> Start:
+    """A path as a str, or a mapping of names to numbers as fractions; TypeError of anything else.
+
+    Doubles are taken as their shortest decimals; ValueError of what is infinite or no number.
+    """
+    if not isinstance(value, Mapping):
+        return _path(value)
+    return {_text(name): Fraction(str(number)) for name, number in value.items()}
+
+
 def _words(value: Any) -> List[str]:
     """A list of words: those of a sequence of texts, or those that a shell splits one text into."""
     if isinstance(value, str):
@@ -153,6 +165,7 @@ COMMON: Mapping[str, Kind] = {
     "shorten": SWITCH,
     "solution": FILE,
     "solver": FILE,
+    "start": _kind("a path, or numbers by name", _start),
     "strict": SWITCH,
     "timelim": _kind("a number of seconds from 0 on", _amount(), float),
     "wantsol": _kind("a whole number from 0 to 15", _whole(0, 15), int),
@@ -296,6 +309,7 @@ def run_settings(solver: str, values: Mapping[str, Any]) -> RunSettings:
         round_integers=bool(get("round", True)),
         shortest_numbers=get("shortest"),
         mps_form=get("format", ""),
+        start=get("start", ""),
         keep_folder=get("keep", ""),
         makes_sol=writes_sol,
         refuses_unclear=bool(get("failexit")),

@@ -27,11 +27,12 @@ from bridge_drivers.pipeline.report import Report
 from bridge_drivers.system.errors import BridgeError
 
 from builders.small_models import MODELS
-from fuzzing.mutations import mutated, names, packed
+from fuzzing.mutations import gently_mutated, mutated, names, packed
 from running.places import EXAMPLES, program
 from running.stored_runs import StoredRun, stored_runs
 
 FAULT = 599
+HEAD_LINES = 10  # of an .nl file
 FAULT_WORDS = "a fault of the driver"
 SECONDS = 2.0  # of a solver and of a search: timelim
 VERDICT = re.compile(
@@ -98,7 +99,7 @@ class Case:
         """Makes the files and the call; None where nothing is wrong."""
         model = self._model()
         words = shlex.join(program())
-        if self.chance.random() < 0.15:
+        if self.chance.random() < 0.1:
             words = self._false_program()
         os.environ["BRIDGE"] = words
         call = self.chance.choice(self._calls())
@@ -120,19 +121,24 @@ class Case:
         """Writes a model, its lists of names and a certificate; the name of the model."""
         name = self.chance.choice(sorted(TEXTS))
         text = TEXTS[name]
-        if self.chance.random() < 0.7:
+        stub, end = os.path.splitext(name)
+        if end == ".nl" and self.chance.random() < 0.3:
+            text, end = _exported(text, self.folder) or text, ".mps"
+        self.told.append(stub + end)
+        way = self.chance.random()
+        if way < 0.2:
             text = mutated(self.chance, text)
-            self.told.append(f"{name} changed")
-        else:
-            self.told.append(name)
-        if self.chance.random() < 0.2:
+            self.told.append("changed")
+        elif way < 0.6:
+            text = gently_mutated(self.chance, text, HEAD_LINES if end == ".nl" else 0)
+            self.told.append("with other values")
+        if self.chance.random() < 0.15:
             text = packed(self.chance, text)
             self.told.append("packed")
-        stub, end = os.path.splitext(name)
         path = self.folder / f"m{end}"
         path.write_bytes(text)
         for ending in (".col", ".row"):
-            if self.chance.random() < 0.3:
+            if self.chance.random() < 0.5:
                 (self.folder / f"m{ending}").write_bytes(names(self.chance, 6))
         self._write_certificate(stub)
         return path.name
@@ -301,6 +307,15 @@ class Case:
         if command == "verify_mps":
             said.append(_said("verify_fixed", model, certificate))
         return "" if report.text in said else f"`{report.text}` is told, {said} are proved"
+
+
+def _exported(text: bytes, folder: Path) -> bytes:
+    """The MPS text of an .nl text; nothing where that is refused."""
+    path = folder / "exported.nl"
+    path.write_bytes(text)
+    done = subprocess.run([*program(), "export", str(path)], capture_output=True)
+    path.unlink()
+    return done.stdout
 
 
 def _said(command: str, model: str, certificate: str) -> str:

@@ -127,6 +127,33 @@ def mutated(chance: random.Random, text: bytes) -> bytes:
     return text
 
 
+def _value_changed(chance: random.Random, line: bytes) -> bytes:
+    """A line whose last word is another number, where it was one."""
+    front, blank, word = line.rpartition(b" ")
+    is_number = word[:1] in b"-.0123456789" if word else False
+    if not blank and line[:1] == b"n":
+        return b"n" + chance.choice(NUMBERS)
+    return front + blank + chance.choice(NUMBERS) if blank and is_number else line
+
+
+def gently_mutated(chance: random.Random, text: bytes, head_lines: int) -> bytes:
+    """A text that is mostly still a model: with other values, and lines that say nothing.
+
+    Args:
+        chance: Chooses.
+        text: Of a model.
+        head_lines: In which no value is changed.
+    """
+    lines = text.split(b"\n")
+    for _ in range(chance.choice((1, 1, 2, 4))):
+        at = chance.randrange(len(lines))
+        if chance.random() < 0.4:
+            lines[at:at] = [chance.choice((b"", b"  ", b"\t", b"# said", b"*"))]
+        elif at >= head_lines:
+            lines[at] = _value_changed(chance, lines[at])
+    return b"\n".join(lines)
+
+
 def packed(chance: random.Random, text: bytes) -> bytes:
     """A text that is packed, sometimes twice or with a change of the packed bytes."""
     text = chance.choice(PACKINGS)(text)
@@ -137,6 +164,6 @@ def packed(chance: random.Random, text: bytes) -> bytes:
 
 def names(chance: random.Random, count: int) -> bytes:
     """A list of names, of which some are the same, empty, or not to be seen."""
-    choices: List[bytes] = [b"", b"a", b"a", b"x1", b"optimal", b"not proved: x", b"infeasible"]
+    choices: List[bytes] = [b"", b"a", b"a", b"x1", *(b"optimal", b"not proved: x", b"unbounded") * 5]
     choices += [*PIECES, *NUMBERS]
     return b"\n".join(chance.choice(choices) for _ in range(chance.randrange(count + 3)))

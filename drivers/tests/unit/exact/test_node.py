@@ -25,7 +25,7 @@ def bounds_with_depths(node: Node) -> List[Tuple[Optional[int], Optional[int]]]:
 
 def test_a_looser_branch_gives_no_bound() -> None:
     """What stands stays, with the depth of the branch that gave it."""
-    node = Node(program([Column(0, 9, is_integer=True)]), False)
+    node = Node(program([Column(0, 9, is_integer=True)]), has_objective=False)
     node.apply(branch(2, DOWN))
     node.apply(branch(5, DOWN))
     node.apply(branch(2, DOWN))
@@ -37,7 +37,7 @@ def test_a_looser_branch_gives_no_bound() -> None:
 @given(st.lists(st.tuples(st.integers(-1, 9), st.sampled_from([DOWN, UP])), max_size=6))
 def test_bounds_are_those_of_their_branches(branches: List[Tuple[int, int]]) -> None:
     """Each bound is the one that the branch of its depth asks for; undone, all is as before."""
-    node = Node(program([Column(0, 9, is_integer=True)]), False)
+    node = Node(program([Column(0, 9, is_integer=True)]), has_objective=False)
     states = []
     for at, direction in branches:
         states.append(bounds_with_depths(node))

@@ -168,7 +168,8 @@ def test_a_tree_for_worse_values_is_searched_once_more() -> None:
 @NEEDS_CLP
 def test_a_node_that_does_not_close(monkeypatch: pytest.MonkeyPatch) -> None:
     """All else is searched without it; then a bound that is a little worse is proved."""
-    value, solve_node, failed = Fraction(143, 10), BranchAndBound.solve_node, list[int]()
+    value, failed = Fraction(143, 10), list[int]()
+    solve_node = BranchAndBound.solve_node
 
     def failing(search: BranchAndBound, branch: Optional[Branch]) -> object:
         if search.cutoff.value == value and search.node.depth == 2 and not failed:

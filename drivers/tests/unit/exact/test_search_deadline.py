@@ -9,6 +9,8 @@ from unittest import mock
 import pytest
 
 from bridge_drivers.exact import work_limit
+from bridge_drivers.exact.certifier import limit_all_work
+from bridge_drivers.exact.clp import Clp
 from bridge_drivers.exact.search_deadline import SearchDeadline, SearchProgress
 from bridge_drivers.exact.work_limit import check_work, limit_work
 from bridge_drivers.system.deadline import Deadline
@@ -49,8 +51,9 @@ def test_a_search_pauses_and_ends() -> None:
             deadline.check_search(3, 60.0)
         assert deadline.why("time") == "interrupted"
         assert work_limit._deadline.get().left() <= 1.0
+        assert Clp.deadline_of_all.left() <= 1.0
     finally:
-        limit_work(Deadline())
+        limit_all_work(Deadline())
 
 
 def test_a_limit_of_the_processor_alone() -> None:
@@ -58,7 +61,7 @@ def test_a_limit_of_the_processor_alone() -> None:
     gives a twentieth of them, all is as on one of its own."""
     deadline = SearchDeadline(1.0, of_processor=True)
     wall, spent = time.monotonic(), time.process_time()
-    with mock.patch("time.monotonic", lambda: wall + 20.0):
+    with mock.patch.object(deadline._all, "_clock", lambda: wall + 20.0):
         assert deadline.left_to_judge() == pytest.approx(6.1 * 25 - 20, abs=0.5)
         assert deadline.to_find().of_processor
         assert deadline.to_find().left() == pytest.approx(3.6, abs=0.5)

@@ -28,7 +28,14 @@ def test_an_incumbent_is_not_lost_by_a_worse_one(maximise: bool, incumbent: floa
     told: List[ProgressEvent] = []
     monitor = monitor_of_numbers(told, maximise=maximise)
     monitor.stage_begins("cbc", 60.0)
-    for line in ("incumbent 18", "a line of words", "incumbent 17", "bound 30", "incumbent 19", "bound 25"):
+    for line in (
+        "incumbent 18",
+        "a line of words",
+        "incumbent 17",
+        "bound 30",
+        "incumbent 19",
+        "bound 25",
+    ):
         monitor.log_line(line)
     assert [event.stage for event in told] == ["cbc"] * 5
     assert (told[-1].incumbent, told[-1].bound) == (incumbent, 25.0)

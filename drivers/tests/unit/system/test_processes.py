@@ -343,6 +343,45 @@ def test_it_ends_with_this_process(tmp_path: Path, number: signal.Signals, statu
     wait_until_gone(found)
 
 
+def is_stopped(number: int) -> bool:
+    """Whether a process waits for SIGCONT."""
+    state = Path(f"/proc/{number}/stat").read_text(encoding="latin-1")
+    return state.rpartition(")")[2].split()[0] == "T"
+
+
+def test_a_stop_is_all_of_them(tmp_path: Path) -> None:
+    """Ctrl-Z stops what this process started, and its children; they go on together."""
+    script = f"echo $$ >{tmp_path}/a.pid; sh -c 'echo $$ >{tmp_path}/b.pid; sleep {LONG}'; true"
+    with driver(tmp_path, "no", *shell(script)) as child:
+        found = [child.pid, *numbers_in(tmp_path, 2)]
+        child.send_signal(signal.SIGTSTP)
+        wait_for(lambda: all(map(is_stopped, found)))
+        child.send_signal(signal.SIGCONT)
+        wait_for(lambda: not any(map(is_stopped, found)))
+        child.send_signal(signal.SIGTERM)
+        assert child.wait(PATIENCE) == 143
+    wait_until_gone(found[1:])
+
+
+@pytest.mark.parametrize("stream", ["", ">&2"])
+def test_what_writes_without_end_is_ended(stream: str) -> None:
+    """Where its caller wants no more than it holds, and no time ends it."""
+    limits = OutputLimits(memory_bytes=1 << 16, ends_beyond=True)
+    ended = run(shell(f"yes {stream}"), Deadline(), limits)
+    assert ended.status == -signal.SIGKILL and ended.dropped > 0
+    assert len(ended.output) + len(ended.errors) < 1 << 18
+
+
+@pytest.mark.parametrize("word", ["a\0b", "\ud800"])
+def test_a_word_that_is_none(word: str) -> None:
+    with pytest.raises(OSError):
+        run(["/bin/echo", word], Deadline())
+
+
+def test_the_longest_deadline() -> None:
+    assert run(shell("exit 3"), Deadline(1e300)).status == 3
+
+
 def test_the_first_interrupt_is_the_programs(tmp_path: Path) -> None:
     """It may end in its own way; the second one ends the run."""
     script = f"trap 'exit 9' INT; echo $$ >{tmp_path}/a.pid; while true; do sleep 0.05; done"
