@@ -24,7 +24,13 @@ from .formats.source import Source, Workspace, read_source
 from .pipeline.read_model import ReadModel, read_program
 from .pipeline.memory import GivenModel, is_in_memory, read_given_model
 from .pipeline.monitor import Monitor, ProgressEvent
-from .pipeline.option_values import RunSettings, checked_values, run_settings, values_of_words
+from .pipeline.option_values import (
+    RunSettings,
+    checked_values,
+    objective_number,
+    run_settings,
+    values_of_words,
+)
 from .pipeline.outcome import code_of_error
 from .pipeline.outputs import (
     exit_status,
@@ -64,7 +70,7 @@ Path = Union[str, "os.PathLike[str]"]
 OnProgress = Callable[[ProgressEvent], None]
 FRONT = "nl-bridge"
 CERTIFY = "bridge-certify"
-CERTIFY_SECONDS = 60.0  # of the solver, and again of the search
+CERTIFY_SECONDS = 120.0  # of a run of `certify` of which nothing else is said
 
 
 def solve(
@@ -85,7 +91,8 @@ def solve(
         solver: The name of the solver: `cbc`, `highs` ..
         prove: A certificate that the answer is optimal is searched for.
         certificate: Where an accepted certificate is kept; None for nowhere.
-        timelim: Seconds of the solver, and again of the search; else the search alone has 60.
+        timelim: Seconds of the whole run, of which `prove` keeps one half for the search. None or
+            0: no limit, but 60 seconds of the search.
         program: The solver's program, where it is not on the PATH.
         on_progress: Is called with what is known while the run goes on, such as incumbents and
             bounds.
@@ -122,8 +129,8 @@ def certify(
         model: A path, the bytes of a file, or a program.
         solver: The name of the solver.
         certificate: Where the certificate is kept; None for nowhere.
-        timelim: Seconds of the solver, and again of the search: 60 where nothing is said; 0 leaves
-            the solver without a limit.
+        timelim: Seconds of the whole run, of which one half is kept for the search: 120 where
+            nothing is said; 0 for no limit, but 60 seconds of the search.
         program: The solver's program, where it is not on the PATH.
         on_progress: As of `solve`.
         options: Further options of the driver, by name.
@@ -226,7 +233,7 @@ def explanation_report(
         read = opened.model
         if certificate is None:
             if read.own is None:
-                read.bridge.export(read.path, objective)
+                read.bridge.export(read.path, objective_number(objective))
             text = f"{read.source.name}: is not refused"
             return call.report(text, [*read.notes, text])
         source = opened.read_certificate(certificate)
@@ -234,7 +241,7 @@ def explanation_report(
         verdict = explanation.verdict
         status = ExitStatus.DONE if verdict.is_proved else ExitStatus.FAILED
         paths = PagePaths(os.fspath(html), os.fspath(svg), overwrite)
-        reads = [read.source.path, read.source.name, source.name]
+        reads = [*read.source.reads, *source.reads]
         written = explanation.write(paths, reads)
         return call.report(
             verdict.line,
@@ -294,7 +301,7 @@ def figures(model: GivenModel, *, objective: int = 0, bridge: str = "") -> Repor
     """
     call = ReportedCall(FRONT)
     with _opened_model(call, model, bridge) as opened:
-        stats = ModelStatistics(opened.model, objective)
+        stats = ModelStatistics(opened.model, objective_number(objective))
         return call.report("stats", stats.lines(), stats=stats.values())
 
 
@@ -338,7 +345,8 @@ class OpenedModel(NamedTuple):
 def opened_bridge(call: ReportedCall, bridge: str = "") -> Iterator[tuple[Bridge, Workspace]]:
     """A block with the proved program and room for files; its errors leave it with a report.
 
-    A refusal becomes the error of its exit status, an OSError a `FileFault` of reading.
+    A refusal becomes the error of its exit status, an OSError a `FileFault` of reading, and what is
+    no error of the hierarchy a `DriverFault`.
 
     Args:
         call: The call; its `program` is set.
@@ -355,6 +363,8 @@ def opened_bridge(call: ReportedCall, bridge: str = "") -> Iterator[tuple[Bridge
             error = call.failed(fault)
         except OSError as fault:
             error = call.failed(FileFault.of(fault, "", FileAction.READ))
+        except Exception as fault:
+            raise call.failed(DriverFault(repr(fault), "__cause__ says where")) from fault
     raise error from None
 
 

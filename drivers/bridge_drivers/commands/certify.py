@@ -6,6 +6,7 @@ another end; nl-bridge asks it for help on options.
 
 from __future__ import annotations
 
+import contextlib
 import os
 import sys
 import time
@@ -13,12 +14,12 @@ from pathlib import Path
 from typing import List, Optional, Sequence
 
 from ..pipeline.answered_run import Outcome
-from ..solvers import SOLVERS
 from ..system.codes import ExitStatus
 from ..system.errors import BridgeError, WrongOption
 from .console import Console, Destination, run_command
 from .driver import DriverCommand
-from .options import CERTIFY_OPTIONS, OptionValues
+from .options import CERTIFY_OPTIONS, COMMON_OPTIONS, SOLVER_OPTIONS, OptionValues
+from .words import parse_driver_call
 
 NAME = "bridge-certify"
 STANDARD_OUTPUT = "-"  # where the certificate goes by this word
@@ -124,16 +125,23 @@ def run_certify(argv: Sequence[str], console: Console) -> int:
     """The exit status of a call: finds the solver, and runs its command.
 
     Args:
-        argv: The words behind the command's name. Of words `driver=NAME` the first counts; in
-            another form, or in the variable, the option is read and changes nothing.
+        argv: The words behind the command's name.
         console: Where it prints.
     """
-    word = next(word for word in (*argv, "driver=cbc") if word.startswith("driver="))
-    try:
-        solver = str(OptionValues(CERTIFY_OPTIONS).known["driver"].read(word.partition("=")[2]))
-    except WrongOption as error:
-        return CertifyCommand(next(iter(SOLVERS)), console).failed(error)
-    return CertifyCommand(solver, console).main(argv)
+    return CertifyCommand(named_driver(argv), console).main(argv)
+
+
+def named_driver(argv: Sequence[str]) -> str:
+    """The solver that the option `driver` names, in any of its spellings, also in the variable.
+
+    It decides which other options there are, so that it is looked for among those of all solvers. A
+    word that is wrong is left to the command, which tells so.
+    """
+    said = OptionValues((*COMMON_OPTIONS, *SOLVER_OPTIONS.values(), *CERTIFY_OPTIONS))
+    with contextlib.suppress(WrongOption):
+        said.take_environment(NAME)
+        said.take(parse_driver_call(argv).options)
+    return said.text("driver")
 
 
 def main() -> None:

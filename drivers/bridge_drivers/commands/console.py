@@ -17,12 +17,13 @@ import logging
 import os
 import sys
 import threading
+import traceback
 from typing import Callable, Iterator, NoReturn, Sequence, TextIO
 
-from ..program.verdict import statement_of
+from ..program.verdict import set_apart, statement_of
 from ..system.codes import ExitStatus
 from ..system.progress import Progress
-from ..system.errors import BrokenOutput, Interrupted
+from ..system.errors import BrokenOutput, DriverFault, Interrupted
 from ..system.signals import SIGNALS
 from ..system.text import cut_to_width, printable
 
@@ -57,6 +58,9 @@ class Colour(enum.Enum):
 class Console:
     """What one command prints to.
 
+    A line that begins as a verdict does is the command's own: what else is told so, such as a name
+    or a line of a log, is indented.
+
     Args:
         output: Standard output; a fault of it is `BrokenOutput`.
         errors: Standard error; a fault of it is nobody's, and what is told there is lost.
@@ -69,6 +73,7 @@ class Console:
         self._output = output
         self._errors = errors
         self.destination = Destination.OUTPUT
+        self._is_line_of_log_begun = False
 
     @classmethod
     def of_this_process(cls) -> Console:
@@ -78,16 +83,21 @@ class Console:
     # messages -------------------------------------------------------------------------------
 
     def line(self, text: str) -> None:
-        """Prints a line of the message, to the destination of messages."""
-        self._message(printable(text) + "\n")
+        """Prints a line of the message that is no verdict, to the destination of messages."""
+        self.lines([text])
 
     def lines(self, texts: Sequence[str]) -> None:
-        """Prints lines of the message, each without its end."""
-        self._message("".join(printable(text) + "\n" for text in texts))
+        """Prints lines of the message that are no verdicts, each without its end."""
+        self._message("".join(set_apart(printable(text)) + "\n" for text in texts))
 
     def log(self, text: str) -> None:
         """Prints a piece of a log, which has its own ends of lines, among the messages."""
-        self._message(printable(text))
+        pieces = printable(text).splitlines(keepends=True)
+        for number, piece in enumerate(pieces):
+            if number or not self._is_line_of_log_begun:
+                pieces[number] = set_apart(piece)
+            self._is_line_of_log_begun = not piece.endswith("\n")
+        self._message("".join(pieces))
 
     def verdict(self, line: str, verdict: str = "") -> None:
         """Prints a line of the message, in the colour of a verdict where the terminal has colours.
@@ -96,11 +106,12 @@ class Console:
             line: What is printed, without its end.
             verdict: The verdict whose colour it has; "" where the line is one.
         """
+        line = set_apart(line) if verdict else line
         if self.is_coloured():
             colour = colour_of(verdict or line).value
             self._message(f"\x1b[{colour}m{printable(line)}\x1b[0m\n")
         else:
-            self.line(line)
+            self._message(printable(line) + "\n")
 
     def message(self, lines: Sequence[str]) -> None:
         """Prints a message whose last line is its verdict; it has one line at least."""
@@ -191,21 +202,22 @@ class Console:
 class ProgressLine:
     """Shows what goes on, from a thread of its own; `Console.progress` starts and stops it.
 
-    On a terminal it is one line that is rewritten in place and leaves nothing behind, elsewhere a
-    line each LINE_SECONDS.
+    On a terminal it is one line that is rewritten in place and leaves nothing behind, elsewhere,
+    and on one that cannot do that (TERM=dumb), a line each LINE_SECONDS.
 
     Attributes:
         stream: Standard error.
         name: Of the command.
         progress: What the work is at, read while it changes.
-        in_place: One line is rewritten: that is wanted, and the stream is a terminal.
+        in_place: One line is rewritten: that is wanted, and the stream is a terminal that can.
     """
 
     def __init__(self, stream: TextIO, name: str, progress: Progress, *, in_place: bool) -> None:
         self.stream = stream
         self.name = name
         self.progress = progress
-        self.in_place = in_place and is_terminal(stream)
+        is_dumb = os.environ.get("TERM") == "dumb"  # to which CLEAR_LINE is letters
+        self.in_place = in_place and is_terminal(stream) and not is_dumb
         self._is_shown = False
         self._has_ended = threading.Event()
         self._thread = threading.Thread(target=self._run, daemon=True)
@@ -229,16 +241,23 @@ class ProgressLine:
         wait = FIRST_SECONDS if self.in_place else LINE_SECONDS
         while not self._has_ended.wait(wait):
             if self.progress.stage:
-                self._show(printable(f"{self.name}: {self.progress.words()}"))
+                self._show(printable(self.progress.words()))
             wait = EVERY_SECONDS if self.in_place else LINE_SECONDS
 
-    def _show(self, line: str) -> None:
-        """Shows one state of the progress: a line without its end, cut to a terminal's width."""
-        if self.in_place:  # in the last column a terminal would begin another line
-            self._write(CLEAR_LINE + cut_to_width(line, columns_of(self.stream) - 1))
-            self._is_shown = True
-        else:
+    def _show(self, words: str) -> None:
+        """Shows one state of the progress: a line, in which the command stands before the words.
+
+        On a terminal it is cut to its width, and where it is wider than that without the command.
+        """
+        line = f"{self.name}: {words}"
+        if not self.in_place:
             self._write(line + "\n")
+            return
+        columns = columns_of(self.stream) - 1  # in the last one a terminal would begin another line
+        if cut_to_width(line, columns) != line:
+            line = cut_to_width(words, columns)
+        self._write(CLEAR_LINE + line)
+        self._is_shown = True
 
     def _write(self, text: str) -> None:
         """Writes to the stream at once; where it takes no more, nothing is shown from then on."""
@@ -295,7 +314,8 @@ def run_command(name: str, command: Callable[[Console], int]) -> NoReturn:
     """Runs a command, and ends the process with its exit status.
 
     A standard output that takes no more is told in one line, unless its reader has gone, and so is
-    a signal; these have exit statuses of their own.
+    a signal; these have exit statuses of their own. So is a fault of the drivers: this is the
+    outermost place of a command, and no exception leaves it.
 
     Args:
         name: Of the command, in these lines.
@@ -316,6 +336,12 @@ def run_command(name: str, command: Callable[[Console], int]) -> NoReturn:
         console.error(f"{name}: interrupted")
         _lead_output_nowhere()
         status = signal.status()
+    except Exception as fault:  # a fault of the drivers, wherever it was: a line tells it
+        if sys.flags.dev_mode:
+            console.error(traceback.format_exc().rstrip("\n"))
+        error = DriverFault(repr(fault), "PYTHONDEVMODE=1 shows where")
+        console.error(f"{name}: {error}")
+        status = error.status
     sys.exit(status)
 
 

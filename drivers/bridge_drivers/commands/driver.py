@@ -9,12 +9,13 @@ from __future__ import annotations
 import contextlib
 import os
 import sys
+import traceback
 from dataclasses import replace
 from typing import List, Optional, Sequence
 
 from .. import api
 from ..formats.sol import failure_sol, short_table, value_lines
-from ..formats.source import Source, Workspace, missing_source, read_model
+from ..formats.source import Source, Workspace, missing_source, read_model, read_source
 from ..pipeline.monitor import Monitor
 from ..pipeline.outcome import code_of_error
 from ..pipeline.outputs import (
@@ -28,6 +29,7 @@ from ..pipeline.outputs import (
 from ..pipeline.report import Report, ReportedCall
 from ..pipeline.answered_run import Outcome
 from ..pipeline.solve import SolveRun
+from ..program.verdict import INDENTATION
 from ..solvers import SOLVERS
 from ..system.codes import Code, ExitStatus
 from ..system.errors import (
@@ -39,6 +41,7 @@ from ..system.errors import (
     WrongOption,
 )
 from ..system.errors import Interrupted
+from ..system.files import write_new
 from ..system.version import VERSION
 from .console import Console, Destination, run_command
 from .minizinc import tell_minizinc
@@ -148,6 +151,8 @@ class DriverCommand:
         if self.call.model is None:
             self.console.error(self.usage().rstrip("\n"))
             return ExitStatus.BAD_WORDS
+        for note in self.call.notes:
+            self.console.error(f"{self.name}: {note}")
         said = self._said_early()
         if not said.flag("json"):
             return self.run()
@@ -186,20 +191,26 @@ class DriverCommand:
     def _run_in_workspace(self) -> int:
         """The exit status of a call that has a model, before what was made for it is removed.
 
-        Faults of the driver are told as errors, unless outlev=2 shows them.
+        Faults of the driver are told as errors; outlev=2 shows where they were. What was proved has
+        been told, or stands in the .sol, where one comes later.
         """
         try:
             self._read_model()
+            start = self._read_start()
             self.take_options()
+            if start:
+                self.options.put("start", start)
             return self.deliver(self._work())
         except BridgeError as error:
             return self.failed(error)
         except Exception as fault:  # a modelling system is told, whatever it was
             if self.options.number("outlev") >= LOG_AND_COMMANDS:
-                raise
+                self.console.error(traceback.format_exc().rstrip("\n"))
+            error = DriverFault(repr(fault))
             if self.has_sol:
-                return ExitStatus.FAILED
-            return self.failed(DriverFault(repr(fault)))
+                self.console.error(f"{self.name}: {error}")
+                return error.status
+            return self.failed(error)
 
     def _read_model(self) -> None:
         """Opens the model, and sets `source`.
@@ -217,6 +228,23 @@ class DriverCommand:
         if self.missing is not None:
             self.source = missing_source(word)
 
+    def _read_start(self) -> str:
+        """The path of a copy of the file that `start` names, "" where it names none.
+
+        It is read before an older .sol is removed, which may be that file.
+
+        Raises:
+            FileFault: It cannot be read.
+        """
+        named = self._said_early().text("start")
+        if not named:
+            return ""
+        try:
+            with open(read_source(named, self.workspace).path, "rb") as file:
+                return write_new(self.workspace.new_path(), file.read())
+        except OSError as fault:
+            raise FileFault.of(fault, named, FileAction.READ) from None
+
     def take_options(self) -> None:
         """Reads the options of the variable and of the words; tells them where that is asked for.
 
@@ -231,6 +259,8 @@ class DriverCommand:
             remove_older_sol(self.source)
         options.take_environment(self.name)
         options.take(self.call.options)
+        if self.call.fault:
+            raise WrongOption(self.call.fault)
         options.run_settings(self.solver.name, writes_sol=self.writes_sol())
         self._check_fit()
         if options.echo and self.call.echoes and not options.flag("failexit"):
@@ -351,7 +381,8 @@ class DriverCommand:
     def _numbers(self) -> List[str]:
         """The lines of values and duals that are wanted, each a name and a decimal.
 
-        Few values are shown where nobody said what is wanted, as by hand.
+        They are indented below a heading: a name may be any word. Few values are shown where nobody
+        said what is wanted, as by hand.
         """
         wanted = self.options.number("wantsol")
         is_by_hand = not (
@@ -361,15 +392,13 @@ class DriverCommand:
             or self.options.is_given("wantsol")
         )
         answer = self.outcome.answer if self.outcome else None
-        lines: List[str] = []
+        values: List[str] = []
         if wanted & PRINT_VALUES:
-            lines += value_lines(named_values(answer))
+            values = list(value_lines(named_values(answer)))
         elif self.shows_short_table and is_by_hand:
-            lines += short_table(named_values(answer))
-        duals = named_duals(answer) if wanted & PRINT_DUALS else []
-        if duals:
-            lines += ["duals", *value_lines(duals)]
-        return lines
+            values = list(short_table(named_values(answer)))
+        duals = list(value_lines(named_duals(answer))) if wanted & PRINT_DUALS else []
+        return [*_below("values", values), *_below("duals", duals)]
 
     def failed(self, error: BridgeError) -> int:
         """Tells why there is no outcome, on standard error and to MiniZinc's user. Sets `error`.
@@ -386,7 +415,7 @@ class DriverCommand:
         tell_minizinc(line, is_error=True)
         wants_sol = self.call.is_ampl and not self.options.flag("failexit")
         if wants_sol and not self.source.is_mps and not isinstance(error, RunInterrupted):
-            with contextlib.suppress(BridgeError, OSError, ValueError, IndexError):
+            with contextlib.suppress(BridgeError, OSError):
                 objective = self.options.number("objno") - 1
                 code = code_of_error(error)
                 write_sol(self.source, failure_sol(self.source.path, code, objective, [line]))
@@ -444,6 +473,11 @@ class DriverCommand:
             return f"{self.usage()}\noptions:\n{listing}" + self.example_text.format(name=self.name)
         place = self.solver.find() or "not found"
         return f"{self.name} {VERSION} ({self.solver.title} {place})\n"
+
+
+def _below(heading: str, lines: Sequence[str]) -> List[str]:
+    """A heading and indented lines below it; nothing where there are none."""
+    return [heading, *(INDENTATION + line for line in lines)] if lines else []
 
 
 def main(solver: str = "") -> None:

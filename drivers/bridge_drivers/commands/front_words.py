@@ -10,11 +10,13 @@ import re
 from dataclasses import dataclass, field
 from typing import Dict, Iterable, List, Sequence
 
+from ..formats.numbers import read_whole
 from ..formats.source import is_stream
 from ..system.errors import WrongWords
-from ..system.text import did_you_mean
+from ..system.text import did_you_mean, shortened
 from . import forms
 from .options import OTHER_NAMES
+from .words import names_file, no_option_note
 
 HELP_WORDS = ("-h", "-?", "-=", "--help")
 VERSION_WORDS = ("-v", "--version")
@@ -22,6 +24,7 @@ PAGE_OPTIONS = ("--html", "--svg")
 NUMBER_NAMES = ("K", "SEED", "SIZE")  # words of the table that are no files
 NUMBER = re.compile("0|[1-9][0-9]*")
 LARGEST_NUMBER = 4294967295  # that the proved program takes
+DIGITS = len(str(LARGEST_NUMBER))
 
 
 @dataclass
@@ -35,6 +38,7 @@ class FrontCall:
         wants_json: One object of JSON is wanted.
         pages: Where pages are written, by `html` and `svg`.
         overwrites: What stands where a file is to be written is replaced.
+        notes: On words that could be taken for options and are none.
     """
 
     word: str = ""
@@ -43,6 +47,7 @@ class FrontCall:
     wants_json: bool = False
     pages: Dict[str, str] = field(default_factory=dict)
     overwrites: bool = False
+    notes: List[str] = field(default_factory=list)
 
 
 def wrong_words(reason: str, word: str, known: Iterable[str]) -> WrongWords:
@@ -60,7 +65,8 @@ def wrong_words(reason: str, word: str, known: Iterable[str]) -> WrongWords:
 def parse_front_call(words: Sequence[str]) -> FrontCall:
     """What the words of a call say.
 
-    Options may stand anywhere before `--`, and -v alone is the command `version`.
+    Options may stand anywhere before `--`, and -v alone is the command `version`. What names a file
+    that is there is no option, once the command was said.
 
     Args:
         words: Those behind the command's name.
@@ -76,7 +82,10 @@ def parse_front_call(words: Sequence[str]) -> FrontCall:
         if word == "--":
             plain += left[::-1]
             break
-        if word in VERSION_WORDS:
+        if plain and names_file(word):
+            call.notes += filter(None, [no_option_note(word)])
+            plain.append(word)
+        elif word in VERSION_WORDS:
             plain = plain or ["version"]
         elif not _take_option(call, word, left):
             plain.append(word)
@@ -140,6 +149,12 @@ def _check_options(call: FrontCall) -> None:
         raise WrongWords(f"{call.word or forms.NAME} takes no {unfit[0]}")
 
 
+def is_number(word: str) -> bool:
+    """Whether a word is a number as the proved program takes it, at most LARGEST_NUMBER."""
+    is_short = NUMBER.fullmatch(word) is not None and len(word) <= DIGITS
+    return is_short and read_whole(word) <= LARGEST_NUMBER
+
+
 def why_not_callable(words: Sequence[str]) -> str:
     """Why no command takes these words, by the table; "" where one does.
 
@@ -166,9 +181,8 @@ def _why_not_these(names: Sequence[str], words: Sequence[str], takes: str) -> st
             listed.
     """
     for name, word in zip(names, words):
-        is_number = NUMBER.fullmatch(word) is not None and int(word) <= LARGEST_NUMBER
-        if name in NUMBER_NAMES and not is_number:
-            return f"{name} is a plain number up to {LARGEST_NUMBER}, not {word}"
+        if name in NUMBER_NAMES and not is_number(word):
+            return f"{name} is a plain number up to {LARGEST_NUMBER}, not {shortened(word)}"
         if name == "COMMAND" and word not in forms.PROVED_WORDS:
             return takes
         if "|" in name and word not in name.split("|"):

@@ -14,18 +14,34 @@ from typing import Callable, List, Mapping, Sequence
 
 from .. import api
 from ..formats.file_kinds import is_mps_file, is_packed_file, start_of_file
+from ..formats.numbers import read_whole
 from ..formats.source import Workspace, is_stream, name_of_model, read_source
 from ..pipeline.report import Report, ReportedCall
-from ..program.bridge import PACKAGE, build_facts, find_program, sha256_of_file
-from ..program.calls import files_of_call, is_utf8
+from ..program.bridge import (
+    PACKAGE,
+    TEXT_LIMITS,
+    VERDICT_LIMITS,
+    build_facts,
+    find_program,
+    sha256_of_file,
+)
+from ..program.calls import Command, Reply, files_of_call, is_utf8
 from ..program.mps_forms import import_mps
 from ..program.reasons import listed_reasons
 from ..program.refusal import read_fault, why_unreadable
+from ..program.verdict import Verdict, read_check, read_proof
 from ..solvers import SOLVERS
 from ..system import processes
 from ..system.codes import ExitStatus
 from ..system.deadline import Deadline
-from ..system.errors import BridgeError, NotStarted, WrongWords
+from ..system.errors import (
+    BridgeError,
+    FileAction,
+    FileFault,
+    NotStarted,
+    ProgramFailed,
+    WrongWords,
+)
 from ..system.processes import Streams
 from ..system.version import VERSION
 from . import forms
@@ -35,9 +51,9 @@ from .console import Console, run_command
 from .driver import DriverCommand
 from .forms import NAME
 from .front_words import (
-    NUMBER,
     NUMBER_NAMES,
     FrontCall,
+    is_number,
     parse_front_call,
     why_not_callable,
     wrong_words,
@@ -60,6 +76,8 @@ def run_front(words: Sequence[str], console: Console) -> int:
     """
     try:
         call = parse_front_call(words)
+        for note in call.notes:
+            console.error(f"{NAME}: {note}")
         if call.wants_help or call.word == "help":
             return _print_help(call, console)
         if not call.word:
@@ -71,6 +89,9 @@ def run_front(words: Sequence[str], console: Console) -> int:
     except BridgeError as error:
         console.error(f"{NAME}: {error}")
         return error.status
+    except OSError as fault:
+        console.error(f"{NAME}: {FileFault.of(fault, '', FileAction.READ)}")
+        return ExitStatus.UNREAD
 
 
 def _dispatch(call: FrontCall, console: Console) -> int:
@@ -228,11 +249,12 @@ def _explained(call: FrontCall) -> Report:
     rest = call.rest
     if len(rest) > 1 and rest[0] in forms.PROVED_WORDS:
         with Workspace() as workspace:
-            return api.refusal_report([rest[0], *_plain_files(workspace, rest)], rest)
+            files = _plain_files(workspace, rest, copies=True)
+            return api.refusal_report([rest[0], *files], rest)
     if len(rest) == 1:
         return api.explain(rest[0])
-    if NUMBER.fullmatch(rest[1]):
-        return api.explain(rest[0], objective=int(rest[1]))
+    if is_number(rest[1]):
+        return api.explain(rest[0], objective=read_whole(rest[1]))
     return api.explanation_report(
         rest[0],
         rest[1],
@@ -294,7 +316,7 @@ def _imported(call: FrontCall) -> Report:
     reported = ReportedCall(NAME)
     reported.model = call.rest[0]
     with api.opened_bridge(reported) as (bridge, workspace):
-        path = _plain_file(workspace, "MPS", call.rest[0])
+        path = _plain_file(workspace, "MPS", call.rest[0], copies=True)
         bridge.file_names[path] = call.rest[0]
         text = import_mps(bridge, path, call.rest[1], overwrite=call.overwrites)
         return reported.report(text, [text])
@@ -307,7 +329,7 @@ def _verified(call: FrontCall) -> Report:
 
 def _statistics(call: FrontCall) -> Report:
     """The report of `stats`, of the first objective where no number (from 0) is said."""
-    objective = int(call.rest[1]) if len(call.rest) > 1 else 0
+    objective = read_whole(call.rest[1]) if len(call.rest) > 1 else 0
     return api.figures(call.rest[0], objective=objective)
 
 
@@ -323,22 +345,27 @@ REPORTS: Mapping[str, Callable[[FrontCall], Report]] = {
 # the proved program -------------------------------------------------------------------------
 
 
-def _plain_files(workspace: Workspace, words: Sequence[str]) -> List[str]:
+def _plain_files(workspace: Workspace, words: Sequence[str], *, copies: bool = False) -> List[str]:
     """The words behind a command of the proved program, files as plain ones that it can read.
 
     Args:
         workspace: Where copies are made; it has to outlive the call.
+        copies: Each file is copied, since it is read more than once. Else the proved program reads
+            a plain file where it stands, once.
         words: The command, and the words behind it; without a form of the table that fits, none are
             answered.
     """
     for form in forms.PROVED_COMMANDS:
         for names in form.names(len(words) - 1):
             if form.word == words[0]:
-                return [_plain_file(workspace, *pair) for pair in zip(names, words[1:])]
+                return [
+                    _plain_file(workspace, name, word, copies=copies)
+                    for name, word in zip(names, words[1:])
+                ]
     return []
 
 
-def _plain_file(workspace: Workspace, name: str, word: str) -> str:
+def _plain_file(workspace: Workspace, name: str, word: str, *, copies: bool = False) -> str:
     """The path of a plain file with the text of a word, in UTF-8; a number stays as it is.
 
     What is packed, or a stream, is copied into the workspace, and a path that is not UTF-8 has a
@@ -348,6 +375,7 @@ def _plain_file(workspace: Workspace, name: str, word: str) -> str:
         workspace: Where that is made.
         name: What the table calls the word: NL and FILE may be stubs.
         word: As the user has it.
+        copies: A plain file is copied, too.
 
     Raises:
         OSError, BridgeError: It cannot be read.
@@ -355,7 +383,7 @@ def _plain_file(workspace: Workspace, name: str, word: str) -> str:
     if name in NUMBER_NAMES:
         return word
     path = name_of_model(word) if name in STUB_NAMES and not os.path.isfile(word) else word
-    if is_stream(path) or is_packed_file(path):
+    if is_stream(path) or is_packed_file(path) or copies and os.path.isfile(path):
         path = read_source(path, workspace).path
     return path if is_utf8(path) else workspace.link_to(path)
 
@@ -393,7 +421,8 @@ def _run_proved_program(
 ) -> int:
     """Runs the proved program and passes on what it writes; its status, below 0 after a signal.
 
-    A verdict is in colour on a terminal, and a file that cannot be read is told with its cause.
+    A verdict is passed on where it is one of the status with which the program ends, and is in
+    colour on a terminal. A file that cannot be read is told with its cause.
 
     Args:
         place: The words that start it.
@@ -403,16 +432,25 @@ def _run_proved_program(
 
     Raises:
         NotStarted: It cannot be run.
+        NoVerdict: What it answers is no verdict.
+        ProgramFailed: It writes more than a verdict, or a text.
     """
     files = files_of_call(call)
     has_fault = any(map(read_fault, files))
-    is_coloured = words[0] in forms.VERDICT_WORDS and console.is_coloured()
-    streams = Streams.APART if is_coloured or has_fault else Streams.PASSED_ON
+    has_verdict = words[0] in forms.VERDICT_WORDS
+    streams = Streams.APART if has_verdict or has_fault else Streams.PASSED_ON
+    limits = VERDICT_LIMITS if has_verdict else TEXT_LIMITS
     try:
-        ended = processes.run([*place, *call], Deadline(), streams=streams)
+        ended = processes.run([*place, *call], Deadline(), limits, streams=streams)
     except OSError as fault:
         raise NotStarted(place[0], str(fault.strerror)) from None
-    _print_output(ended.output.decode("utf-8", "surrogateescape"), console, is_coloured=is_coloured)
+    if ended.dropped:
+        raise ProgramFailed(f"`bridge {words[0]}` writes more than is read")
+    if has_verdict and ended.status in (ExitStatus.DONE, ExitStatus.FAILED):
+        reply = Reply(ended.status, ended.output, "")
+        console.verdict(VERDICT_READERS.get(words[0], _line_of_certificate)(reply))
+    elif ended.output:
+        console.output(ended.output.decode("utf-8", "surrogateescape"))
     told = ended.errors.decode("utf-8", "surrogateescape").rstrip("\n")
     if ended.status == ExitStatus.UNREAD and has_fault:
         told = f"{NAME}: {why_unreadable(files, dict(zip(files, files_of_call(words))))}"
@@ -421,12 +459,19 @@ def _run_proved_program(
     return ended.status
 
 
-def _print_output(output: str, console: Console, *, is_coloured: bool) -> None:
-    """Prints what the proved program wrote, a verdict in its colour; nothing where that is empty."""
-    if is_coloured and output.strip():
-        console.verdict(output.rstrip("\n"))
-    elif output:
-        console.output(output)
+def _line_of_certificate(reply: Reply) -> str:
+    """The line of a verdict on a certificate.
+
+    Raises:
+        NoVerdict: It is none.
+    """
+    return Verdict(reply).line
+
+
+VERDICT_READERS: Mapping[str, Callable[[Reply], str]] = {
+    Command.CHECK.value: read_check,
+    Command.PROVE.value: read_proof,
+}  # by the word of a command; of all others it is `_line_of_certificate`
 
 
 def main() -> None:

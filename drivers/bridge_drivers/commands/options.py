@@ -13,11 +13,11 @@ import textwrap
 from dataclasses import dataclass
 from typing import Dict, Iterable, List, Mapping, Sequence, Union
 
-from ..pipeline.option_values import RunSettings, run_settings
+from ..pipeline.option_values import MOST_OBJECTIVES, MOST_PROCESSES, RunSettings, run_settings
 from ..solvers import SOLVERS
 from ..solvers.settings import SolverOption
 from ..system.errors import WrongOption
-from ..system.text import alternatives, did_you_mean
+from ..system.text import alternatives, did_you_mean, shortened
 
 Value = Union[int, float, str]
 
@@ -110,7 +110,7 @@ def numbers(low: int, high: float = math.inf) -> NumberRange:
 
 
 SWITCH = whole_numbers(0, 1)
-COUNT = whole_numbers(0)
+COUNT = whole_numbers(0, MOST_PROCESSES)
 AMOUNT = numbers(0)
 SHARE = numbers(0, 1)
 FILE = AnyText("a file")
@@ -143,7 +143,8 @@ class Option:
         try:
             return self.kind.read(word)
         except ValueError:
-            raise WrongOption(f"{self.name}={word}: {self.kind.title} is wanted") from None
+            told = f"{self.name}={shortened(word)}"
+            raise WrongOption(f"{told}: {self.kind.title} is wanted") from None
 
     def values(self) -> str:
         """Its values, and what it is where nothing is said: `(0 or 1; 0)`.
@@ -200,7 +201,7 @@ COMMON_OPTIONS: Sequence[Option] = (
     ),
     Option("json", 0, SWITCH, "1: standard output gets one object of JSON, and nothing else"),
     Option("keep", "", FOLDER, "where the files in between are kept"),
-    Option("objno", 1, whole_numbers(1), "which objective"),
+    Option("objno", 1, whole_numbers(1, MOST_OBJECTIVES), "which objective"),
     Option(
         "only",
         "",
@@ -218,7 +219,7 @@ COMMON_OPTIONS: Sequence[Option] = (
         "prove",
         0,
         SWITCH,
-        "1: search a certificate that the answer is optimal (timelim holds for it too; 60 seconds "
+        "1: search a certificate that the answer is optimal (what is left of timelim; 60 seconds "
         "where there is none)",
     ),
     Option("relax", 0, SWITCH, "1: integer variables as continuous ones"),
@@ -249,13 +250,25 @@ COMMON_OPTIONS: Sequence[Option] = (
     ),
     Option("solver", "", FILE, "the solver's program, where it is not on the PATH"),
     Option(
+        "start",
+        "",
+        FILE,
+        "values that solver and search begin with: a .sol, lines NAME VALUE, or JSON (the guess in "
+        "the model)",
+    ),
+    Option(
         "strict",
         0,
         SWITCH,
         "1: what is not proved optimal, infeasible or unbounded is not solved (code 100, exit "
         "status 7); sets prove=1",
     ),
-    Option("timelim", 0.0, AMOUNT, "seconds for the solver; 0: no limit"),
+    Option(
+        "timelim",
+        0.0,
+        AMOUNT,
+        "seconds of the whole run, of which prove=1 keeps one half for the certificate; 0: no limit",
+    ),
     Option(
         "wantsol",
         0,
@@ -284,9 +297,9 @@ CERTIFY_OPTIONS: Sequence[Option] = (
     Option("stats", 0, SWITCH, "1: a line of figures"),
     Option(
         "timelim",
-        60.0,
+        120.0,
         AMOUNT,
-        "seconds for the driver, and again for the certificate; 0: no limit",
+        "seconds of the whole run, of which one half is kept for the certificate; 0: no limit",
     ),
 )
 
@@ -326,7 +339,7 @@ class OptionValues:
         name = name.lstrip("-").lower()
         if name not in self.known:
             meant = did_you_mean(name, self.known, OTHER_NAMES)
-            raise WrongOption(f"unknown option {name};{meant} -= lists the options")
+            raise WrongOption(f"unknown option {shortened(name)};{meant} -= lists the options")
         return self.known[name]
 
     def take(self, words: Iterable[str]) -> None:

@@ -11,7 +11,10 @@ import re
 from dataclasses import dataclass, field
 from typing import List, Optional, Sequence
 
+from ..system.text import shortened
+
 ASSIGNMENT = re.compile(r"[A-Za-z]\w*=")
+STARTING = ("bridge", "solver", "extra")  # options that start programs
 
 
 class HelpKind(enum.Enum):
@@ -44,6 +47,8 @@ class DriverCall:
         help_kind: What is told instead of a run; None where the model is solved.
         help_topic: The option that help is wanted of; "" for all.
         options: The words that say options, in order, as `OptionValues.take` reads them.
+        notes: On words that could be taken for options and are none, for standard error.
+        fault: Why the words cannot be taken; "" where they can.
     """
 
     model: Optional[str] = None
@@ -53,15 +58,18 @@ class DriverCall:
     help_kind: Optional[HelpKind] = None
     help_topic: str = ""
     options: List[str] = field(default_factory=list)
+    notes: List[str] = field(default_factory=list)
+    fault: str = ""
 
 
 def parse_driver_call(argv: Sequence[str]) -> DriverCall:
     """What the words of a call say, in any order.
 
     What is `name=value`, or begins with `-`, is an option, the first other word the model, and what
-    follows it options of the form `name value`. After `--` nothing begins with `-`, and the first
-    word is the model unless there is one. `help` alone in front is a call for help, unless a file
-    has that name.
+    follows it options of the form `name value`. What names a file that is there is never an option:
+    a shell may have made it of a pattern. After `--` nothing begins with `-`, the first word is the
+    model unless there is one, and no option starts a program. `help` alone in front is a call for
+    help, unless a file has that name.
 
     Args:
         argv: The words behind the command's name.
@@ -76,11 +84,43 @@ def parse_driver_call(argv: Sequence[str]) -> DriverCall:
         word = left.pop()
         if word == "--":
             _take_plain_words(call, left)
+        elif names_file(word):
+            _take_file(call, word)
         elif word in HELP_WORDS:
             call.help_kind = call.help_kind or HELP_WORDS[word]
         elif not _take_flag(call, word):
             _take_word(call, word, left)
     return call
+
+
+def names_file(word: str) -> bool:
+    """Whether a word of a call is the name of a file that is there."""
+    try:
+        return os.path.isfile(word)
+    except ValueError:  # a byte 0
+        return False
+
+
+def no_option_note(word: str) -> str:
+    """A line on a word that could be an option, and is the name of a file; "" of other words."""
+    if not (ASSIGNMENT.match(word) or word.startswith("-")):
+        return ""
+    return f"`{shortened(word)}` is the name of a file here, and is not taken for an option"
+
+
+def _take_file(call: DriverCall, word: str) -> None:
+    """Takes a word that names a file: the model, where there is none yet, else it is one too many.
+
+    Args:
+        call: Is told of it.
+        word: The word.
+    """
+    note = no_option_note(word)
+    call.notes += [note] if note else []
+    if call.model is None:
+        call.model = word
+    else:
+        call.fault = call.fault or f"one model is taken, and `{shortened(word)}` is a further file"
 
 
 def _take_plain_words(call: DriverCall, left: List[str]) -> None:
@@ -94,10 +134,14 @@ def _take_plain_words(call: DriverCall, left: List[str]) -> None:
     """
     while left:
         word = left.pop()
-        if call.model is None:
+        if names_file(word):
+            _take_file(call, word)
+        elif call.model is None:
             call.model = word
+        elif word.partition("=")[0].lstrip("-").lower() in STARTING:
+            call.fault = call.fault or f"`{shortened(word)}` starts a program: it stands before --"
         else:
-            call.options.append(word)
+            call.options += [word, *_words_of_value(word, left)]
 
 
 def _take_flag(call: DriverCall, word: str) -> bool:
@@ -128,7 +172,7 @@ def _take_word(call: DriverCall, word: str, left: List[str]) -> None:
     elif call.model is None:
         call.model = word
     else:
-        call.options.append(word)
+        call.options += [word, *_words_of_value(word, left)]
 
 
 def _words_of_value(word: str, left: List[str]) -> List[str]:

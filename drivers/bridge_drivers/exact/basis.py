@@ -21,6 +21,7 @@ from .clp import Basis, Clp, LpStatus
 from .dual_bound import MultiplierKind, Multipliers, needed_row_bound
 from .linear_systems import LiftedSystem, RationalVector, scipy_or_none, solve_exactly
 from .points import BasicSystem, basic_system
+from .row_system import BASE_BITS
 from .work_limit import check_work
 
 # Systems
@@ -31,7 +32,7 @@ LEAST_BITS = 320  # they tell each fraction of 127 bits
 
 # Refinement
 ROUNDS = 5
-PRECISION_BITS = 400  # binary places of the point and of the duals
+PRECISION_BITS = BASE_BITS  # binary places of the point and of the duals
 LARGEST_SHIFT = PRECISION_BITS - 64
 LEAST_RESIDUAL = 2.0**-900  # what is below counts as nothing
 SHIFT_STEP = 30  # binary digits by which residuals are scaled up more than in the round before
@@ -242,6 +243,7 @@ class IterativeRefinement:
             up last; 0 before the first round.
         dual_shift: The same of the duals.
         basis: Of the last round, by the program's own columns and rows.
+        rounds: How many found an optimum.
     """
 
     def __init__(self, program: IntegerProgram, clp: Clp, deadline: Deadline) -> None:
@@ -262,6 +264,7 @@ class IterativeRefinement:
         self.primal_shift = 0
         self.dual_shift = 0
         self.basis = clp.basis()
+        self.rounds = 0
 
     def bases(self) -> Iterator[NearBasis]:
         """The basis of each of ROUNDS rounds, as long as CLP finds an optimum.
@@ -286,6 +289,7 @@ class IterativeRefinement:
             self.point = _corrected(self.point, clp.values(), self.primal_shift)
             self.duals = _corrected(self.duals, clp.duals(), self.dual_shift)
             self.basis = self._basis_of(clp)
+            self.rounds += 1
             yield NearBasis(self.basis, [v / (1 << PRECISION_BITS) for v in self.point])
 
     def _warm_start(self, clp: Clp) -> None:

@@ -41,6 +41,9 @@ class GainSum(NamedTuple):
     times: int
 
 
+NO_GAIN = GainSum(0.0, 0)
+
+
 class Pseudocosts:
     """What branching gained so far.
 
@@ -60,6 +63,23 @@ class Pseudocosts:
         """The same gains; what is learnt by one of both the other does not know."""
         return Pseudocosts((dict(self.gains[DOWN]), dict(self.gains[UP])))
 
+    def less(self, before: Pseudocosts) -> Pseudocosts:
+        """What was learnt since these were a copy of `before`: gains that are not in that."""
+        learnt = Pseudocosts()
+        for gains, known, found in zip(self.gains, before.gains, learnt.gains):
+            for column, (total, times) in gains.items():
+                old = known.get(column, NO_GAIN)
+                if times > old.times:
+                    found[column] = GainSum(total - old.total, times - old.times)
+        return learnt
+
+    def add(self, learnt: Pseudocosts) -> None:
+        """Adds what another search has learnt."""
+        for gains, found in zip(self.gains, learnt.gains):
+            for column, (total, times) in found.items():
+                old = gains.get(column, NO_GAIN)
+                gains[column] = GainSum(old.total + total, old.times + times)
+
     def learn(self, column: int, direction: int, gain: float, distance: float) -> None:
         """Adds what the dual bound gained in a branch, per unit of `distance`.
 
@@ -71,7 +91,7 @@ class Pseudocosts:
             distance: By which the branch moved the column from its value in the relaxation.
         """
         if distance > LEAST_DISTANCE:
-            total, times = self.gains[direction].get(column, (0.0, 0))
+            total, times = self.gains[direction].get(column, NO_GAIN)
             self.gains[direction][column] = GainSum(total + max(0.0, gain) / distance, times + 1)
 
     def mean(self, direction: int) -> float:
@@ -151,15 +171,15 @@ class PseudocostBranching:
         pseudocosts: What is known already; it is copied.
 
     Attributes:
-        strong_seconds: Of the wall, that choosing took so far.
-        began: When this was made, by the monotonic clock.
+        strong_seconds: Of the processor, that choosing took so far.
+        began: When this was made, by the processor's clock.
     """
 
     def __init__(self, strong_candidates: int, pseudocosts: Optional[Pseudocosts] = None) -> None:
         self.strong_candidates = strong_candidates
         self.pseudocosts = Pseudocosts() if pseudocosts is None else pseudocosts.copy()
         self.strong_seconds = 0.0
-        self.began = time.monotonic()
+        self.began = time.process_time()
 
     def choose(self, node: Node, relaxed: Relaxed, fractional: Sequence[int]) -> Tuple[int, int]:
         """The column of `fractional` to branch on, and the direction that is searched first.
@@ -172,11 +192,11 @@ class PseudocostBranching:
         Args:
             fractional: Columns, and forms behind them, whose values are not integer: at least one.
         """
-        now = time.monotonic()
+        now = time.process_time()
         is_late = self.strong_seconds > UNHURRIED_SECONDS + STRONG_SHARE * (now - self.began)
         tries = STRONG_CANDIDATES_LATE if is_late else self.strong_candidates
         best = self._best(node, relaxed, self.ranked(node, relaxed, fractional), tries)
-        self.strong_seconds += time.monotonic() - now
+        self.strong_seconds += time.process_time() - now
         return best.column, best.better_direction()
 
     def ranked(self, node: Node, relaxed: Relaxed, fractional: Sequence[int]) -> List[Candidate]:

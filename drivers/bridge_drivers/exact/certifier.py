@@ -29,11 +29,12 @@ from .evidence import (
 from .integer_certifier import IntegerCertifier
 from .linear_certifier import LinearCertifier
 from .refutations import Refuter
-from .search_deadline import KEPT_SECONDS, SearchDeadline, SearchProgress
+from .search_deadline import SearchDeadline, SearchProgress
 from .task import CertificationTask, SearchOptions
 from .work_limit import limit_work
 from .worker_pools import WorkerPool
 
+BEYOND_DOUBLES = "a number of the model is beyond the range of doubles, by which is searched"
 DENIALS_OF_A_POINT = (AnswerClaim.INFEASIBLE,)
 DENIALS_OF_AN_OPTIMUM = (
     AnswerClaim.INFEASIBLE,
@@ -129,15 +130,26 @@ class Certifier:
     def _certified(self, claim: AnswerClaim) -> Evidence:
         """As `certify`, without what is known beside the evidence."""
         try:
-            limit_all_work(Deadline(self.task.deadline.left_to_find()))
+            limit_all_work(self.task.deadline.to_find())
             return self._tried(claim)
         except (TimeOver, DeadlineExceeded):
             found = self._with_optimality_in_doubles(first_proved(self._known()))
             return found._replace(may_be_unbounded=self.refuter.may_be_unbounded())
         except (ClpNotInstalled, SearchEnded) as ended:
             return not_proved(ended)
+        except OverflowError:
+            return self._known_or(BEYOND_DOUBLES)
         finally:
             limit_all_work(Deadline())
+
+    def _known_or(self, reason: str) -> Evidence:
+        """What is proved by now of what is known, else that nothing is, for a reason in words."""
+        limit_all_work(Deadline(KEPT_SECONDS))
+        try:
+            found = first_proved(self._known())
+        except (OverflowError, TimeOver, DeadlineExceeded):
+            return not_proved(reason)
+        return found if found.is_proved else not_proved(reason)
 
     def certify_point(self) -> Evidence:
         """Where the solver has a point: that it is optimal, else a point and a bound.
@@ -255,7 +267,7 @@ class Certifier:
         """
         limit_all_work(Deadline())
         yield from self.integer.claim_known_tree()
-        limit_all_work(Deadline(self.task.deadline.left_of_all() - KEPT_SECONDS))
+        limit_all_work(self.task.deadline.to_find_at_last())
         with contextlib.suppress(TimeOver, SearchEnded):
             self._add_bound_at_last()
         limit_all_work(Deadline())

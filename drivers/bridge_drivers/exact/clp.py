@@ -12,7 +12,7 @@ import ctypes.util
 import enum
 import math
 import time
-from typing import Any, Iterable, List, Mapping, NamedTuple, Optional, Sequence, Tuple
+from typing import Any, Iterable, Iterator, List, Mapping, NamedTuple, Optional, Sequence, Tuple
 
 from ..model.double_form import DoubleBound, DoubleProgram
 from ..system.deadline import Deadline
@@ -25,6 +25,7 @@ ITERATIONS = 100_000  # of one relaxation
 LEAST_SOLVE_SECONDS = 1.0  # that a solve gets, however little time is left
 MOST_SOLVE_SECONDS = 30.0
 FIRST_SLICE = 1.0  # seconds of the processor, which is what CLP's own limit counts
+MOST_SLICE = 4.0  # after which at last an interrupt is seen
 SMALL = 1e-3  # bounds and costs below are scaled up
 LIBRARY_NAMES = ("libClp.so.1", "libClp.so", "libClp.1.dylib", "libClp.dylib")
 
@@ -122,7 +123,7 @@ def library() -> Optional[ctypes.CDLL]:
 
 def _load() -> Optional[ctypes.CDLL]:
     """The first library by the known names that has all calls, whose types are set; else None."""
-    for name in filter(None, (*LIBRARY_NAMES, ctypes.util.find_library("Clp"))):
+    for name in _library_names():
         try:
             found = ctypes.CDLL(name)
             for call, signature in _SIGNATURES.items():
@@ -135,6 +136,14 @@ def _load() -> Optional[ctypes.CDLL]:
     return None
 
 
+def _library_names() -> Iterator[str]:
+    """The known names; and then what the system finds, which starts `ldconfig` and takes long."""
+    yield from LIBRARY_NAMES
+    found = ctypes.util.find_library("Clp")
+    if found is not None:
+        yield found
+
+
 class Clp:
     """A relaxation whose bounds change. What is asked of it is of the last `solve`.
 
@@ -143,10 +152,11 @@ class Clp:
     CLP scales rows itself. What methods take and answer is in the program's own units.
 
     Attributes:
-        deadline_of_all: With which each solve of any relaxation ends at last.
+        deadline_of_all: With which each solve of any relaxation ends at last. All seconds of solves
+            are those of its clock, the wall's or the processor's.
         deadline: Of what this relaxation is solved for: a solve gets the time that is left of it
             when it begins, with a least and a most.
-        seconds: Of the wall, that one solve may take of a relaxation that has no such deadline.
+        seconds: That one solve may take of a relaxation that has no such deadline.
         n: The count of columns.
         m: The count of rows.
         column_factors: By column: CLP's value is this times the column's own.
@@ -169,6 +179,12 @@ class Clp:
     def restrict(cls, deadline: Deadline) -> None:
         """From now on each solve of any relaxation of this process stops where it is over."""
         cls.deadline_of_all = deadline
+
+    @classmethod
+    def shorten(cls, deadline: Deadline) -> None:
+        """Each solve of any relaxation, a running one too, stops when the seconds of this deadline
+        are over, or where it would have stopped, if that is earlier. At an interrupt."""
+        cls.restrict(cls.deadline_of_all.within(deadline.left()))
 
     def __init__(
         self, program: DoubleProgram, enlargements: Optional[Sequence[float]] = None
@@ -211,7 +227,7 @@ class Clp:
         self.deadline = deadline
 
     def seconds_of_solve(self) -> float:
-        """Of the wall, how long a solve may take that begins now."""
+        """How long a solve may take that begins now."""
         seconds = self.seconds
         if self.deadline is not None:
             seconds = min(max(self.deadline.left(), LEAST_SOLVE_SECONDS), MOST_SOLVE_SECONDS)
@@ -239,8 +255,9 @@ class Clp:
         """Solves from the basis that it has, by the dual simplex method or the primal one.
 
         CLP's own limit counts seconds of the processor, of which a busy machine gives few: it gets
-        slices, and after each the clock is looked at. A slice is at most twice the one before, and
-        at most what the processor gives in the time that is left, by what it gave in that one.
+        slices, and after each the clock is looked at. A slice is at most twice the one before,
+        MOST_SLICE, and what the processor gives in the time that is left, by what it gave in that
+        one. An interrupt, which shortens `deadline_of_all`, ends the solve behind its slice.
 
         Args:
             most_iterations: Of the method; 0: the values and duals of the basis are wanted.
@@ -256,19 +273,22 @@ class Clp:
         self._send_bounds()
         lib.Clp_setNumberIterations(model, 0)
         lib.Clp_setMaximumIterations(model, most_iterations)
-        now = time.monotonic()
+        clock = time.process_time if self.deadline_of_all.of_processor else time.monotonic
+        now = clock()
         portion = FIRST_SLICE
         end = now + self.seconds_of_solve()
         while True:
-            seconds = max(min(end - now, portion), 0.0) if end < math.inf else -1.0
+            seconds = max(min(end - now, portion), 0.0)
             lib.Clp_setMaximumSeconds(model, seconds)
             (lib.Clp_primal if by_primal else lib.Clp_dual)(model, 0)
             if not self._is_stopped() or lib.Clp_numberIterations(model) >= most_iterations:
                 break
-            began, now = now, time.monotonic()
+            began, now = now, clock()
+            end = min(end, now + self.deadline_of_all.left())
             if now >= end:
                 break
-            portion = min(2 * portion, (end - now) * seconds / max(now - began, seconds))
+            by_clock = (end - now) * seconds / max(now - began, seconds)
+            portion = min(2 * portion, MOST_SLICE, by_clock)
         status = lib.Clp_status(model)
         return LpStatus(status) if status in (0, 1, 2) else LpStatus.OTHER
 

@@ -208,6 +208,17 @@ class EvidenceStore:
         """The best of `points`; None where there is none."""
         return self.points[0] if self.points else None
 
+    def is_closed(self, share: Fraction) -> bool:
+        """Whether the best point and the bound are so near each other.
+
+        Args:
+            share: Of the point's value, or of 1.
+        """
+        if self.bound is None or self.point is None:
+            return False
+        value = self.program.value(self.point)
+        return value - self.bound.value <= share * max(Fraction(1), abs(value))
+
     def add_point(self, point: Point) -> None:
         """Adds an exact feasible point, by column, to `points`, of which only the best stay.
 
@@ -317,17 +328,25 @@ class EvidenceStore:
         """`optimal`, by a point and duals that are exact and of the same value.
 
         Nothing is claimed where one of their numbers has more than CERTIFICATE_BITS. Sets `note` in
-        each case: to that, or to what the judge's line says behind its first colon, as its reason
-        against `optimal`.
+        each case: to that, with the bits of point, duals and value, or to what the judge's line
+        says behind its first colon, as its reason against `optimal`: there sums are too wide.
         """
         self.is_optimum_known = True
         duals = (Fraction(y, leaf.denominator) for y in leaf.numerators.values())
-        bits = bit_width([*point, *duals])
-        self.note = too_wide_note(f"{bits} bits")
-        if bits <= CERTIFICATE_BITS:
-            found = self.claim_of_leaf("optimal", leaf, point)
-            self.note = f"the exact optimum: {found.line.partition(': ')[2]}"
-            yield found
+        parts = {
+            "point": bit_width(point),
+            "duals": bit_width(duals),
+            "value": bit_width([self.program.value(point)]),
+        }
+        told = ", ".join(f"its {part} {bits}" for part, bits in parts.items())
+        self.note = too_wide_note(f"{max(parts.values())} bits ({told})")
+        if max(parts["point"], parts["duals"]) > CERTIFICATE_BITS:
+            return
+        found = self.claim_of_leaf("optimal", leaf, point)
+        if parts["value"] <= CERTIFICATE_BITS:
+            reason = found.line.partition(": ")[2]
+            self.note = f"the exact optimum: {reason}; bits without sums: {told}"
+        yield found
 
     def claim_of_ray(self, point: Point, ray: Optional[Point]) -> Evidence:
         """`unbounded`, by a feasible point and a ray that improves the objective; judged."""

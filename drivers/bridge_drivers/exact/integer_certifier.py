@@ -11,7 +11,7 @@ import itertools
 from fractions import Fraction
 from typing import Iterator, Optional, Sequence
 
-from .short_duals import NO_MULTIPLIERS, box_bound, short_duals
+from .short_duals import NO_MULTIPLIERS, box_bound
 from ..model.integer_form import Box, Point
 from ..system.errors import SearchEnded
 from . import points
@@ -27,6 +27,8 @@ from .task import CertificationTask
 
 NO_EXACT_POINT = "no exact point has the answer's whole variables"
 ROUNDING = Fraction(1, 10**12)  # of the largest term of a row: as much may be rounding
+# of a bound, or of 1: no answer's value is so much better by rounding
+FAR_BEYOND = Fraction(1, 10**6)
 REPAIR_NODES = 200  # of a search beside an answer
 REPAIR_SHARE = 0.25  # of the seconds that are left, for such a search
 
@@ -156,7 +158,7 @@ class IntegerCertifier:
         clp = self.task.solve_relaxation().optimal_clp()
         if clp is None or not any(program.costs):
             return
-        self.linear.add_short_duals(short_duals(program, clp, self.task.deadline))
+        self.linear.add_short_bound(clp)
         duals = basis_duals(program, *clp.basis())
         box = Box(program.lower, program.upper)
         proof = LeafProver(program, None).prove_from_fractions(duals, MultiplierKind.DUAL, box)
@@ -207,8 +209,9 @@ class IntegerCertifier:
         """Where no exact point has the answer's integer columns: a refutation, or what is found.
 
         A claim of a point that is worse than the answer does not take the answer's place, unless it
-        is `optimal` or the answer is contradicted. Where nothing takes it, the answer comes back as
-        not proved, with the reason and with `contradicts_answer`.
+        is `optimal` or the answer is contradicted, as it is by a bound that is far beyond its
+        value. Where nothing takes it, the answer comes back as not proved, with the reason and with
+        `contradicts_answer`.
 
         Args:
             x: The answer's values by column.
@@ -216,12 +219,13 @@ class IntegerCertifier:
                 (`points.integer_residual`); up to ROUNDING it may be rounding alone.
         """
         found = first_proved(self._tried_without_point(violation))
-        claimed = found.point
+        claimed, value = found.point, self.program.value([Fraction(v) for v in x])
         is_worse = (
-            claimed is not None
-            and found.claim != "optimal"
-            and self.program.value(claimed) > self.program.value([Fraction(v) for v in x])
+            claimed is not None and found.claim != "optimal" and self.program.value(claimed) > value
         )
+        bound = self.store.bound
+        if bound is not None and bound.value - value > FAR_BEYOND * max(1, abs(bound.value)):
+            self.is_answer_contradicted = True
         if found.is_proved and (self.is_answer_contradicted or not is_worse):
             return found
         reason = NO_EXACT_POINT

@@ -6,6 +6,9 @@ branches on the z, which are integer forms of x, ends soon where one on the colu
 Hurkens and Lenstra 2000): `1000000007 x - 998244353 y = 1` needs one branch. Doubles do not hold the
 numbers of such programs, so that each relaxation is solved in fractions.
 
+Small programs whose rows have numbers that are too wide for doubles are searched in the same way, by
+their integer columns.
+
 `Refuter` asks for it before a solver's `infeasible` is believed, and `IntegerCertifier` before the
 searches by CLP. What is found is a point, and mostly a tree that there is no better one.
 """
@@ -25,7 +28,7 @@ from .dual_bound import MultiplierKind
 from .hermite import LARGEST_NUMBER, Equation, integer_equations
 from .lattice import LLLReduction, column_widths, reduced_modulo
 from .leaf_proofs import from_fractions
-from .portfolio import TreeText
+from .strategies import TreeText
 from .rational_simplex import RationalSimplex, SimplexResult
 from .tree import Split, Tree, leaf_of, node_count
 from .work_limit import check_work
@@ -35,6 +38,7 @@ MOST_FORMS = 12  # dimensions of the lattice
 MOST_ROWS = 60
 MOST_NUMBERS = 600  # coefficients and columns
 MOST_NODES = 200
+WIDEST_RATIO = 2**50  # of coefficients of a row
 LEAST_PRECISION = 1000  # numbers of the lattice are at least as large
 LATTICE = "lattice"  # the strategy, as it is told
 
@@ -190,7 +194,7 @@ class HermiteForm:
             for j in left:
                 if j != least:
                     self._subtract(j, least, self._matrix[j][row] // self._matrix[least][row])
-            if max(map(abs, self.unimodular[least])) > LARGEST_NUMBER:
+            if max(abs(v) for v in self.unimodular[least]) > LARGEST_NUMBER:
                 return False
 
     def _subtract(self, column: int, other: int, factor: int) -> None:
@@ -320,16 +324,28 @@ def _with_item(bounds: Bounds, place: int, value: int) -> Bounds:
 
 
 def lattice_optimum(program: IntegerProgram, check: Callable[[], None]) -> Optional[LatticeOptimum]:
-    """What a search over the lattice of a small program's equations finds.
+    """What a search over the lattice of a small program's equations finds, or where numbers of a row
+    are too wide for doubles one on its few integer columns.
 
     Args:
         program: With integer columns, and without added rows.
         check: Raises SearchEnded to end the search.
 
     Returns:
-        None where the program is none of these, or its lattice is too large.
+        None where the program is none of these, or has more than MOST_FORMS forms.
     """
     if not is_small_lattice(program):
         return None
     forms = lattice_forms(program)
-    return None if forms is None else LatticeSearch(program, forms, check).run()
+    if forms is None and has_wide_numbers(program):
+        forms = [{j: 1} for j, is_integer in enumerate(program.is_integer) if is_integer]
+    if forms is None or len(forms) > MOST_FORMS:
+        return None
+    return LatticeSearch(program, forms, check).run()
+
+
+def has_wide_numbers(program: IntegerProgram) -> bool:
+    """Whether a row has coefficients that are so far apart that doubles lose the least beside the
+    largest: more than WIDEST_RATIO times."""
+    sizes = ([abs(a) for _, a in row] for row in program.rows if row)
+    return any(max(row) > WIDEST_RATIO * min(row) for row in sizes)

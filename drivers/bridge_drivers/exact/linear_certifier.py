@@ -9,36 +9,48 @@ as a certificate can hold, in few digits.
 
 from __future__ import annotations
 
+import itertools
+import math
 from fractions import Fraction
-from typing import Iterable, Iterator, List, Mapping, NamedTuple, Optional
+from typing import Iterable, Iterator, List, Mapping, NamedTuple, Optional, Sequence
 
-from .short_duals import GOOD_GAP, NO_MULTIPLIERS, ShortDuals, box_bound, short_duals
-from .short_points import DecimalPoints, ShortPoint
-from ..model.integer_form import Box, Point
+from .short_duals import NO_MULTIPLIERS, ShortDuals, box_bound, rounded_duals, short_duals
+from .short_points import NEAR_OF_DOUBLES, NEAR_OF_EXACT, fixed_points, short_point
+from ..model.integer_form import Box, IntegerProgram, Point
+from ..system.deadline import Deadline
 from ..system.errors import NotSolved, TooManyBits
 from . import points
-from .basis import IterativeRefinement, NearBasis, can_lift, exact_optimum
+from .basis import IterativeRefinement, NearBasis, Optimum, can_lift, exact_optimum
 from .clp import Clp, LpStatus
 from .dual_bound import MultiplierKind, fits_certificate
-from .evidence import NO_POINT, AnswerByPlace, BoundEvidence, Evidence, Number, too_wide_note
+from .evidence import NO_POINT, AnswerByPlace, Evidence, Number, too_wide_note
 from .leaf_proofs import LeafProof, LeafProver, basis_duals
 from .rational_simplex import is_small
 from .refutations import Refuter
+from .row_system import BASE_BITS
 from .task import CertificationTask
 
 LARGE_ENTRIES = 3000  # from which on bases come first, where SciPy is there
 MOST_REFINED_ENTRIES = 200_000  # of a program whose bases are refined
+MOST_SHORT_ENTRIES = 200_000  # of a program whose solutions are made short
+SHORT_SECONDS = 4.0  # of the processor, for a short point, and again for short duals
+SHORT_ROUNDS = 3  # of refinement, where no exact basis is looked for
+NEAR_ENOUGH = Fraction(1, 10**9)  # of the value, or of 1: between a point and a bound
+SIMPLEX_SECONDS = 3.0  # of the simplex method in fractions, where short numbers are near already
 
 
-class FarPoint(NamedTuple):
-    """A short point that is not near the bound; they are ordered by their objectives.
+class NearOptimum(NamedTuple):
+    """What short numbers are made of: a point and duals that are optimal, or nearly so.
 
     Attributes:
-        value: The objective there, minimised.
+        point: By column, over 2 to the power of `row_system.BASE_BITS`.
+        duals: By row, minimised, over the same.
+        near: A share of a bound's size, or of 1, within which it counts as met.
     """
 
-    value: Fraction
-    point: Point
+    point: Sequence[int]
+    duals: Sequence[int]
+    near: float
 
 
 class LinearCertifier:
@@ -48,6 +60,9 @@ class LinearCertifier:
         store: Points and bounds that are known, to which all is added, and the note that says why
             no exact optimum is claimed. Where there is a note, no more bases are tried.
         refuter: Of the same program: shows that it has no point, or no bound.
+        optimum: The exact one, where a basis had it, whether it fits a certificate or not.
+        refinement: Of the last bases that were tried; None: there was none.
+        is_refuting: A refutation was tried; what is found by it does not begin another one.
     """
 
     def __init__(self, task: CertificationTask, refuter: Refuter) -> None:
@@ -55,17 +70,21 @@ class LinearCertifier:
         self.program = task.program
         self.store = task.store
         self.refuter = refuter
+        self.optimum: Optional[Optimum] = None
+        self.refinement: Optional[IterativeRefinement] = None
+        self.is_refuting = False
 
     def certify_from_point(self, point: Point) -> Iterator[Evidence]:
         """What is proved from a feasible point, as of an answer with these values alone."""
+        self.store.add_point(point)
         return self.certify(AnswerByPlace(point))
 
     def certify(self, answer: AnswerByPlace) -> Iterator[Evidence]:
         """`optimal`, else `unbounded`, else the strongest claims that can be had.
 
         Short numbers near the answer come first, then bases, then fractions; of a large program the
-        answer's basis at once. Where the optimum's exact numbers are too wide, or it is not found,
-        a point and a bound in short ones.
+        answer's basis at once, and short numbers where no basis is exactly optimal. Where the
+        optimum's exact numbers are too wide, or it is not found, a point and a bound in short ones.
 
         Args:
             answer: Without values where the solver gave none.
@@ -79,22 +98,13 @@ class LinearCertifier:
             yield from self._by_points(answer, clp)
         if relaxed.status is LpStatus.UNBOUNDED:
             yield self.refuter.certify_ray()
-        yield from self._by_exact_optimum(answer, clp)
-        yield from self._by_short_numbers(clp)
-
-    def _by_exact_optimum(self, answer: AnswerByPlace, clp: Optional[Clp]) -> Iterator[Evidence]:
-        """`optimal` from bases, or of a small program by the simplex method in fractions.
-
-        Args:
-            clp: The relaxation at its optimum; None: it has none, and no basis is tried.
-        """
         if clp is not None:
             yield from self.by_bases(self.bases(clp))
-        if not self.store.note and is_small(self.program):
-            start = answer
-            if clp is not None:
-                start = AnswerByPlace(clp.values(), None, clp.basis())
-            yield from self.refuter.by_rational_simplex(start)
+            if is_large and self.optimum is None:
+                yield from self._by_points(answer, clp)
+            self.add_short_numbers(clp)
+        yield from self._by_rational_simplex(answer, clp)
+        yield from self._by_what_is_known()
 
     def by_bases(self, bases: Iterable[NearBasis]) -> Iterator[Evidence]:
         """`optimal` by the first basis that is exactly optimal, where a certificate can hold it.
@@ -110,13 +120,13 @@ class LinearCertifier:
             return
         for basis, x in bases:
             try:
-                point, leaf = exact_optimum(self.program, basis, x)
+                self.optimum = exact_optimum(self.program, basis, x)
             except NotSolved:
                 continue
             except TooManyBits as wide:
-                self.store.note = too_wide_note(str(wide))
+                self.store.note = too_wide_note(f"{wide} (its point or its duals)")
                 return
-            yield from self.store.claim_of_optimum(point, leaf)
+            yield from self.store.claim_of_optimum(*self.optimum)
             return
 
     def bases(self, clp: Clp) -> Iterator[NearBasis]:
@@ -128,7 +138,72 @@ class LinearCertifier:
         """
         yield NearBasis(clp.basis(), clp.values())
         if self.program.matrix.count <= MOST_REFINED_ENTRIES:
-            yield from IterativeRefinement(self.program, clp, self.task.deadline).bases()
+            self.refinement = IterativeRefinement(self.program, clp, self.task.deadline)
+            yield from self.refinement.bases()
+
+    def add_short_numbers(self, clp: Clp) -> None:
+        """Adds to the store a point and a bound in short numbers, near each other.
+
+        Of a program with more than MOST_SHORT_ENTRIES coefficients the duals are CLP's, rounded,
+        and there is no point.
+
+        Args:
+            clp: The relaxation at its optimum.
+        """
+        program = self.program
+        if program.matrix.count > MOST_SHORT_ENTRIES:
+            self.add_short_duals(rounded_duals(program, dict(enumerate(clp.duals()))))
+            return
+        near = self.near_optimum(clp)
+        self.task.deadline.tell_step("short numbers")
+        limit = Deadline(SHORT_SECONDS, of_processor=True)
+        point = short_point(program, near.point, near.near, limit)
+        if point is not None:
+            self.store.add_point(point.point)
+        self._add_short_duals(near)
+
+    def add_short_bound(self, clp: Clp) -> None:
+        """Adds to the store the bound of duals in short numbers, as of the relaxation of an integer
+        program.
+
+        Args:
+            clp: The relaxation at its optimum.
+        """
+        if self.program.matrix.count > MOST_SHORT_ENTRIES:
+            self.add_short_duals(rounded_duals(self.program, dict(enumerate(clp.duals()))))
+        else:
+            self._add_short_duals(self.near_optimum(clp))
+
+    def _add_short_duals(self, near: NearOptimum) -> None:
+        """Adds to the store the bound of duals in short numbers."""
+        limit = Deadline(SHORT_SECONDS, of_processor=True)
+        value = value_near(self.program, near)
+        duals = short_duals(self.program, near.duals, value, near.near, limit)
+        if duals is not None:
+            self.add_short_duals([duals])
+
+    def near_optimum(self, clp: Clp) -> NearOptimum:
+        """The exact optimum where it is known, else the refined one, else CLP's.
+
+        Args:
+            clp: The relaxation at its optimum.
+        """
+        if self.optimum is not None:
+            point, leaf = self.optimum
+            denominator = leaf.denominator
+            duals = [
+                Fraction(leaf.numerators.get(i, 0), denominator) for i in range(self.program.m)
+            ]
+            return NearOptimum(fixed_points(point), fixed_points(duals), NEAR_OF_EXACT)
+        refined = self.refinement
+        if refined is None or not refined.rounds:
+            refined = IterativeRefinement(self.program, clp, self.task.deadline)
+            for _ in itertools.islice(refined.bases(), SHORT_ROUNDS):
+                pass
+        if refined.rounds:
+            return NearOptimum(refined.point, refined.duals, NEAR_OF_EXACT)
+        x, duals_of_clp = clp.values(), clp.duals()
+        return NearOptimum(fixed_points(x), fixed_points(duals_of_clp), NEAR_OF_DOUBLES)
 
     def add_short_duals(self, found: Iterable[ShortDuals]) -> None:
         """Adds the bound of each to the store, which keeps the closest."""
@@ -150,21 +225,32 @@ class LinearCertifier:
         is_large = self.program.matrix.count > LARGE_ENTRIES
         return is_large and can_lift() and any(self.program.costs)
 
-    def _by_short_numbers(self, clp: Optional[Clp]) -> Iterator[Evidence]:
-        """`within` by a point and a bound in short numbers, then what is known at last.
+    def _by_rational_simplex(self, answer: AnswerByPlace, clp: Optional[Clp]) -> Iterator[Evidence]:
+        """`optimal` of a small program, of which no basis had the optimum, by the simplex method
+        in fractions.
 
-        Where no point is known, a refutation is tried, and what follows from a point that it finds.
-        Each claim has the store's note, which says why it is not `optimal`.
+        It has SIMPLEX_SECONDS where a point and a bound in short numbers are near each other.
 
         Args:
             clp: The relaxation at its optimum; None: it has none.
         """
-        self.store.note = self.store.note or "no basis was found that is exactly optimal"
+        if self.store.note or not is_small(self.program):
+            return
+        start = answer
         if clp is not None:
-            deadline = self.task.deadline
-            self.add_short_duals(short_duals(self.program, clp, deadline))
-            yield from self._by_short_points(clp)
-        if self.store.point is None:
+            start = AnswerByPlace(clp.values(), None, clp.basis())
+        seconds = SIMPLEX_SECONDS if self.store.is_closed(NEAR_ENOUGH) else math.inf
+        yield from self.refuter.by_rational_simplex(start, seconds)
+
+    def _by_what_is_known(self) -> Iterator[Evidence]:
+        """`within` by a point and a bound in short numbers, else what there is.
+
+        Where no point is known, a refutation is tried, and what follows from a point that it finds.
+        Each claim has the store's note, which says why it is not `optimal`.
+        """
+        self.store.note = self.store.note or "no basis was found that is exactly optimal"
+        if self.store.point is None and not self.is_refuting:
+            self.is_refuting = True
             yield Evidence(NO_POINT)
             yield from self.refuter.refute(self.certify_from_point)
         self.add_box_bound()
@@ -263,66 +349,8 @@ class LinearCertifier:
         """The program's own bounds of columns."""
         return Box(self.program.lower, self.program.upper)
 
-    def _by_short_points(self, clp: Clp) -> Iterator[Evidence]:
-        """`within` by short numbers, at the first point that is near the bound, else at the best.
 
-        Near is GOOD_GAP of the point's value, or of 1. Adds each point to the store. While a claim
-        is made, the store's note says how its point was made; at the end it says why the judge
-        refused the last claim, where there was one.
-
-        Args:
-            clp: The relaxation at its optimum.
-        """
-        store = self.store
-        note, bound = store.note, store.bound
-        far: List[FarPoint] = []
-        refused = ""
-        for made in self._short_points(clp):
-            store.add_point(made.point)
-            if bound is None:
-                continue
-            value = self.program.value(made.point)
-            store.note = _both_notes(note, made.way)
-            if value - bound.value > GOOD_GAP * max(Fraction(1), abs(value)):
-                far.append(FarPoint(value, made.point))
-                continue
-            evidence = store.claim_of_bound("within", bound, made.point)
-            refused = evidence.line
-            yield evidence
-        store.note = note
-        for evidence in self._at_far_points(far, bound):
-            refused = evidence.line
-            yield evidence
-        if refused:
-            store.note = _both_notes(note, f"points of few digits: {refused.partition(': ')[2]}")
-
-    def _short_points(self, clp: Clp) -> Iterator[ShortPoint]:
-        """Feasible points in decimals, made of CLP's optimum (`short_points`).
-
-        They have the same number of decimals everywhere; then, unless the program is too large,
-        more of them where the rows ask for it.
-        """
-        program = self.program
-        is_refined = program.matrix.count <= MOST_REFINED_ENTRIES
-        for by_rows in (False, True) if is_refined else (False,):
-            basis, deadline = clp.saved_basis(), self.task.deadline
-            yield from DecimalPoints(
-                program, basis, clp.values(), deadline, scaled_by_rows=by_rows
-            ).points()
-
-    def _at_far_points(
-        self, far: List[FarPoint], bound: Optional[BoundEvidence]
-    ) -> Iterator[Evidence]:
-        """`within` at these points, the best first.
-
-        Args:
-            bound: None only where there are no points.
-        """
-        for _, point in sorted(far):
-            assert bound is not None
-            yield self.store.claim_of_bound("within", bound, point)
-
-
-def _both_notes(note: str, more: str) -> str:
-    """The note, with what is more to say behind it, if that is not empty."""
-    return f"{note}; {more}" if more else note
+def value_near(program: IntegerProgram, near: NearOptimum) -> Fraction:
+    """The objective at a nearly optimal point, minimised, with its constant."""
+    total = sum([c * v for c, v in zip(program.costs, near.point) if c])
+    return program.constant_fraction + Fraction(total, program.cost_scale << BASE_BITS)

@@ -63,7 +63,7 @@ class _Screening:
         integers: Of the t that are integer: the coefficient, the value at the optimum and the place
             of each. A t that is fixed counts nowhere.
         rhs: b.
-        slack: The sum of -c t over the other t whose coefficient c is below 0.
+        slack: The sum of c t over the other t whose coefficient c is below 0; at most 0.
         squares: The sum of the squares of these c.
     """
 
@@ -92,7 +92,7 @@ class _Screening:
         if substitution.is_integer:
             self.integers.append((coefficient, substitution.value, place))
         elif coefficient < 0:
-            self.slack -= coefficient * substitution.value
+            self.slack += coefficient * substitution.value
             self.squares += coefficient * coefficient
 
     def efficacy(self, divisor: float) -> float:

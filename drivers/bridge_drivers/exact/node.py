@@ -188,17 +188,19 @@ class Node:
         """Goes into a branch: sets its bound in `box`, the relaxation and the form's row, and
         remembers the one before.
 
-        A bound that is tighter already stays, but its depth becomes that of this branch all the
-        same.
+        A bound that is as tight or tighter stays, with the depth of the branch that gave it: what
+        rests on it does not rest on this branch.
         """
         is_upper = 1 - branch.direction
         old = self.box[is_upper][branch.column]
-        old_depth = self.bound_depths[is_upper][branch.column]
-        self.changes.append(BoundChange(branch.column, is_upper, old, old_depth))
+        before = BoundChange(
+            branch.column, is_upper, old, self.bound_depths[is_upper][branch.column]
+        )
+        self.changes.append(before)
         bound = (branch.at + branch.direction) * self.program.bound_scale
-        if old is not None:
-            bound = min(old, bound) if is_upper else max(old, bound)
-        self._set_bound(BoundChange(branch.column, is_upper, bound, self.depth - 1))
+        is_tighter = old is None or (bound < old if is_upper else bound > old)
+        change = before._replace(bound=bound, depth=self.depth - 1) if is_tighter else before
+        self._set_bound(change)
 
     def undo(self) -> None:
         """Leaves the last branch: its bound and depth are those that were there before.

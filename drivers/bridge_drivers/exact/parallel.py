@@ -15,12 +15,11 @@ from __future__ import annotations
 
 import math
 import pickle
-import time
 import weakref
 from concurrent.futures import FIRST_COMPLETED, Future, wait
 from dataclasses import dataclass
 from functools import cached_property
-from typing import Callable, Dict, List, Optional, Union
+from typing import Callable, Dict, Iterator, List, Optional, Union
 
 from .search_deadline import SearchDeadline
 from ..system.errors import SearchEnded, SearchPaused
@@ -65,6 +64,11 @@ class Subtree:
     is_dropped: bool = False
     why_not_closed: str = ""
 
+    def node_count(self) -> int:
+        """The nodes that its search has so far, branching ones and proved ones."""
+        siblings = (node.sibling for node in self.open_nodes if node.sibling is not None)
+        return len(self.open_nodes) + sum(node_count(sibling.tree) for sibling in siblings)
+
     def dual_bound(self) -> float:
         """No point in it is better than this, minimised, as far as its relaxations say."""
         return least_open_bound(self.open_nodes, self.bound)
@@ -75,7 +79,7 @@ class ParallelSearch:
 
     Attributes:
         search: What this process works; it also closes what is left for a bound. Its `nodes` count
-            the whole tree so far, with proved subtrees that fell away when others were joined.
+            the whole tree so far, without what fell away.
         branches: By place, the branching nodes between the root and the subtrees; the direction of
             each counts nothing.
         proved: By place, subtrees that are proved; all of the tree is at "".
@@ -83,8 +87,10 @@ class ParallelSearch:
         set_aside: Subtrees whose first node was neither closed nor branched on, for the cutoff of
             now.
         running: Those that the pool works; none between two calls of `resume`.
-        reports_progress: Whether the deadline is told of it.
-        began: On the wall's clock, in seconds.
+        reports_progress: Whether its progress is told.
+        on_progress: Tells it, in place of `tell_progress`: a portfolio tells that of all its
+            searches together.
+        began: The second of the deadline.
     """
 
     def __init__(
@@ -108,12 +114,13 @@ class ParallelSearch:
         this: ParallelSearch = weakref.proxy(self)  # so that CLP's memory is free with the last use
         self.search.on_node = lambda: this.report_progress()
         self.reports_progress = True
+        self.on_progress: Optional[Callable[[], None]] = None
         self.running: Dict[Future[UnitResult], Subtree] = {}
         self.waiting = [Subtree("", [])]
         self.set_aside: List[Subtree] = []
         self.branches: Dict[str, Branch] = {}
         self.proved: Dict[str, ProvedSubtree] = {}
-        self.began = time.monotonic()
+        self.began = deadline.spent()
 
     @cached_property
     def packed_problem(self) -> bytes:
@@ -227,16 +234,29 @@ class ParallelSearch:
             0.5**depth for depth, node in open_nodes if node.sibling is not None
         )
 
-    def report_progress(self) -> None:
-        """Tells the deadline of nodes, open nodes and the bound, in the objective's own sense.
+    def open_count(self) -> int:
+        """How many nodes are open: known, and neither proved nor branched on."""
+        return sum(1 + len(subtree.open_nodes) for subtree in self.subtrees())
 
-        The search calls it at nodes where the progress is due. Without a cutoff no bound is told,
-        and nothing where `reports_progress` is not set.
+    def report_progress(self) -> None:
+        """Has the progress told, unless `reports_progress` is not set.
+
+        The search calls it at nodes where the progress is due.
         """
-        if not self.reports_progress:
-            return
-        open_nodes = sum(1 + len(subtree.open_nodes) for subtree in self.subtrees())
-        known = {"nodes": float(self.search.nodes), "open": float(open_nodes)}
+        if self.reports_progress:
+            (self.on_progress or self.tell_progress)()
+
+    def tell_progress(self) -> None:
+        """Tells the deadline of nodes, open nodes, the share of the tree that is closed, and the
+        bound, in the objective's own sense.
+
+        Without a cutoff no bound is told.
+        """
+        known = {
+            "nodes": float(self.search.nodes),
+            "open": float(self.open_count()),
+            "closed": self.proved_share(),
+        }
         if self.search.cutoff.value is not None:
             known["bound"] = self.search.program.sign * self.dual_bound
         self.deadline.tell_numbers(**known)
@@ -369,11 +389,25 @@ class ParallelSearch:
                 if sibling is None:
                     break
                 branch = self.branches[above]._replace(direction=direction)
-                is_needed = depth in sibling.needed_depths
-                proved = join(branch, depth, proved, sibling) if is_needed else sibling
+                if depth in sibling.needed_depths:
+                    proved = join(branch, depth, proved, sibling)
+                else:
+                    self.search.nodes -= 1 + node_count(proved.tree)
+                    proved = sibling
+            else:
+                self.search.nodes -= sum(self._node_counts(above))
             self._drop(above)
             place = above
         self.proved[place] = proved
+
+    def _node_counts(self, place: str) -> Iterator[int]:
+        """The nodes at a place and below it that `nodes` counts, part by part: branching nodes,
+        proofs, and what is open of subtrees."""
+        yield from (1 for at in self.branches if at.startswith(place))
+        yield from (node_count(p.tree) for at, p in self.proved.items() if at.startswith(place))
+        for subtree in self.subtrees():
+            if subtree.place.startswith(place) and not subtree.is_dropped:
+                yield subtree.node_count()
 
     def _drop(self, place: str) -> None:
         """Forgets the branches and proofs at a place and below it, and marks the subtrees there as
@@ -419,13 +453,15 @@ class ParallelSearch:
             self.running[future] = self.waiting.pop()
 
     def _unit(self, subtree: Subtree, until: float) -> WorkUnit:
-        """What a process gets of a subtree: for UNIT_SHARE of the seconds of the wall since
-        `began`, within the limits of units, at least what the subtree asks, and not beyond `until`.
+        """What a process gets of a subtree: for UNIT_SHARE of the seconds of the search so far,
+        within the limits of units, at least what the subtree asks, and not beyond `until`; all by
+        the clock of the deadline.
 
         What is proved of siblings stays here; a RemoteSubtree stands for it, with its place among
         the open nodes as the key, by which `_take` puts it back.
         """
-        seconds = max(UNIT_SHARE * (time.monotonic() - self.began), LEAST_UNIT_SECONDS)
+        so_far = self.deadline.spent() - self.began
+        seconds = max(UNIT_SHARE * so_far, LEAST_UNIT_SECONDS)
         seconds = max(min(seconds, MOST_UNIT_SECONDS), subtree.seconds)
         seconds = min(seconds, max(until - self.deadline.spent(), 0.0))
         open_nodes = [
@@ -434,7 +470,8 @@ class ParallelSearch:
         ]
         pseudocosts = self.search.branching.pseudocosts
         path = self._path(subtree.place)
-        return WorkUnit(self.packed_problem, path, open_nodes, pseudocosts, seconds)
+        of_processor = self.deadline.of_processor
+        return WorkUnit(self.packed_problem, path, open_nodes, pseudocosts, seconds, of_processor)
 
     def _collect(self) -> Optional[ImprovedIncumbent]:
         """Waits up to POLL_SECONDS for a unit to end, and takes what ended.
@@ -458,11 +495,10 @@ class ParallelSearch:
         return None
 
     def _take(self, subtree: Subtree, future: Future[UnitResult]) -> Optional[ImprovedIncumbent]:
-        """Takes what a unit made of its subtree: open nodes, or the proof, and nodes and
-        pseudocosts.
+        """Takes what a unit made of its subtree: open nodes, or the proof, and nodes and what it
+        learnt of pseudocosts.
 
-        The pseudocosts of the unit that came back last are those of all units that are made from
-        then on. Where the process died, the subtree stays as it was and is worked again.
+        Where the process died, the subtree stays as it was and is worked again.
 
         Returns:
             The better point where the unit found one; then the subtree stays as it was.
@@ -472,10 +508,13 @@ class ParallelSearch:
             PoolFailed: Too many processes died with the subtree.
         """
         result = _result_of(subtree, future)
-        if result is None or result.improved is not None:
-            return None if result is None else result.improved
+        if result is None:
+            return None
+        self.deadline.count_elsewhere(result.seconds / max(self.pool.workers, 1))
+        if result.improved is not None:
+            return result.improved
         self.search.nodes += result.nodes
-        self.search.branching.pseudocosts = result.pseudocosts
+        self.search.branching.pseudocosts.add(result.learnt)
         kept = {
             key: node.sibling.tree
             for key, node in enumerate(subtree.open_nodes)

@@ -21,12 +21,14 @@ from .clp import Basis, LpStatus, library
 from .dual_bound import fits_certificate
 from .linear_systems import solve_exactly
 from .relaxation import relaxation
+from .short_points import NEAR_OF_DOUBLES, NEAR_OF_EXACT, fixed_points, short_point
 from .work_limit import check_work, checked
 
 INTEGER_TOLERANCE = 1e-3  # how far from whole numbers the integer columns of a point may be
 NEAR_BOUND = Fraction(1, 10**9)  # of a bound's size, or of 1: a value is meant to be the bound
 NEAR_POINT = Fraction(1, 10**5)  # of a value's size, or of 1: how far it may be moved
 DENOMINATORS = (1, 2, 12, 100, 1000, 10**6)  # the largest ones of fractions that are tried
+SHORT_SECONDS = 2.0  # of the processor, for the other columns in short numbers
 ZERO = Fraction(0)
 ONE = Fraction(1)
 
@@ -240,6 +242,15 @@ def _best_with_fixed(
     found = vertex(around, clp.basis(), clp.values())
     if found is not None and all(map(fits_certificate, found)):
         return found
+    if found is None and not any(around.costs):
+        return best_nearby_point(program, clp.values())
+    limit = Deadline(SHORT_SECONDS, of_processor=True)
+    if found is None:
+        short = short_point(around, fixed_points(clp.values()), NEAR_OF_DOUBLES, limit)
+    else:
+        short = short_point(around, fixed_points(found), NEAR_OF_EXACT, limit)
+    if short is not None and program.is_feasible(short.point):
+        return short.point
     return best_nearby_point(program, clp.values()) or found
 
 

@@ -15,6 +15,7 @@ processor's.
 from __future__ import annotations
 
 import math
+import weakref
 from fractions import Fraction
 from typing import Callable, Dict, List, Optional, Sequence
 
@@ -38,6 +39,7 @@ from .strategies import (
     ProvedBound,
     Strategy,
     TreeText,
+    joint_progress,
 )
 from .tree import Tree
 from .worker_pools import SearchProblem, WorkerPool
@@ -49,15 +51,21 @@ TURN_SECONDS = 0.25  # that a turn has at least
 PLAIN_TURN_SECONDS = 0.1  # of a run that has no other strategy
 PLAIN_RESERVE_SECONDS = 1.0  # for a bound, in such a run
 OTHERS_SHARE = 0.1  # of all seconds, for what is not the first strategy
+CUTS_SHARE = 0.4  # of all seconds, for cuts, whatever other strategies took
+LEAST_ROUND_SECONDS = 0.2  # of these at a time: a round of cuts takes its time
+MOST_STRATEGIES_BELOW_CUTS = 5
 FARTHEST_FORECAST = 2.0  # times the seconds so far: later ends of the first strategy count as this
-LEAST_CUT_SECONDS = 0.05  # from which on cuts are made
+LEAST_CUT_SECONDS = 0.05  # from which on the first cuts are made
 FIRST_CUT_SECONDS = 0.5  # that they may be made at once
 LATTICE_AFTER_SECONDS = 2.0  # before which no lattice is reduced
 MOST_LATTICE_COLUMNS = 45  # integer ones
-SHARE_OF_REST = 2.0  # times the gap that cuts leave: the share of the seconds that is left then
+ENOUGH_CLOSED = {MIR: 0.5, CLIQUE: 0.25}  # of the gap: then a strategy begins below the cuts
+LEAST_SHARE_BELOW_CUTS = 0.2  # of another strategy's seconds, that one below cuts seems to need
 SHORTER_TIMES = 4.0  # the seconds of the first tree, for a shorter one
 SHORTER_SECONDS = 2.0  # more
 SHORT_TREE = 40  # nodes of a tree that needs no shorter one
+LARGE_TREE = 1000  # nodes of a tree for which a shorter one is looked for in any case
+LARGE_TREE_TIMES = 0.25  # the seconds of such a tree, for a shorter one
 WORSE_SHARE = 0.1  # of a tree's nodes, for a worse value: from then on it is searched once more
 
 BOUND_DIGITS = 3  # of the gap, in which a bound is told
@@ -124,6 +132,16 @@ class Portfolio:
         go. Minus infinity before there is one."""
         return max((strategy.search.dual_bound for strategy in self.strategies), default=-math.inf)
 
+    def tell_progress(self) -> None:
+        """Tells the deadline what all strategies have together, while one of them has its turn.
+
+        The bound is the best of all, in the objective's own sense.
+        """
+        known = joint_progress(self.strategies, self.deadline.spent())
+        if not self.has_no_value:
+            known["bound"] = self.program.sign * self.dual_bound
+        self.deadline.tell_numbers(**known)
+
     def reports(self) -> List[str]:
         """How each strategy that had a turn ended its last one, in the order of their beginnings."""
         return [strategy.report for strategy in self.strategies if strategy.report]
@@ -136,6 +154,8 @@ class Portfolio:
         above: List[Row] = [*self.objective.open_rows(), *(cut.row() for cut in cuts)]
         problem = SearchProblem(self.program, above, forms, self.objective.cutoff)
         search = ParallelSearch(problem, self.exact_point, self.deadline, self.pool)
+        this: Portfolio = weakref.proxy(self)  # so that CLP's memory is free with the last use
+        search.on_progress = lambda: this.tell_progress()
         self.strategies.append(Strategy(name, cuts, forms, search, self.objective))
         return self.strategies[-1]
 
@@ -159,6 +179,7 @@ class Portfolio:
         if strategy.has_ended:
             return None
         began, until = self.deadline.spent(), self.until(budget)
+        strategy.turn_began = began
         try:
             found = strategy.search.resume(until, most_nodes)
             while isinstance(found, ImprovedIncumbent) and not self.has_no_value:
@@ -172,6 +193,7 @@ class Portfolio:
             return None
         finally:
             strategy.spent += self.deadline.spent() - began
+            strategy.turn_began = None
         if isinstance(found, ImprovedIncumbent):
             return found
         self._end_with_tree(strategy, found)
@@ -228,8 +250,9 @@ class Portfolio:
             live = [strategy for strategy in self.strategies if not strategy.has_ended]
             first = self._likely_first(live)
             seconds = self.time_for_others(first)
-            if self._is_preparation_due(seconds):
-                self._prepare(seconds)
+            preparing = max(seconds, self.time_for_cuts())
+            if self._is_preparation_due(preparing):
+                self._prepare(preparing)
             elif first is None:
                 break
             else:
@@ -252,7 +275,7 @@ class Portfolio:
         while (
             improved is None
             and self.seconds_left() > 0
-            and self.deadline.left_to_find() > PLAIN_RESERVE_SECONDS
+            and self.deadline.to_find().left() > PLAIN_RESERVE_SECONDS
             and not strategy.has_ended
         ):
             improved = self.resume(strategy, PLAIN_TURN_SECONDS)
@@ -310,18 +333,33 @@ class Portfolio:
         seconds = min(OTHERS_SHARE * (total + rest) - others, rest / 2)
         return max(seconds, FIRST_CUT_SECONDS - others) if self.has_no_value else seconds
 
+    def time_for_cuts(self) -> float:
+        """Seconds that may go now to cuts alone, whatever other strategies took: CUTS_SHARE of all,
+        less what was made; minus infinity where that is not enough for a round of them.
+
+        A round is LEAST_ROUND_SECONDS, and twice as long after each that was in vain.
+        """
+        preparation = self.preparation
+        if preparation.names[:1] == [THIN]:
+            return -math.inf
+        seconds = CUTS_SHARE * self.seconds_so_far() - preparation.seconds
+        is_enough = seconds >= LEAST_ROUND_SECONDS * 2**preparation.vain_attempts
+        return seconds if is_enough else -math.inf
+
     def take_turn(
         self, strategy: Strategy, first: Strategy, seconds_for_others: float
     ) -> Optional[ImprovedIncumbent]:
-        """One strategy goes on, for as long as it had so far, but at most twice its estimate; at
-        least TURN_SECONDS, not past `end`, and one that is not the first no longer than there is
-        time for others.
+        """One strategy goes on, for as long as it had so far, but at most twice its estimate; for
+        half as long while cuts close more of the gap each time that some are made. At least
+        TURN_SECONDS, not past `end`, and one that is not the first no longer than there is time for
+        others.
 
         The estimates of a strategy that takes longer than it seemed to are corrected. The answer is
         a better point, where one was found.
         """
         estimate = strategy.estimated_seconds()
-        seconds = max(min(strategy.spent, 2 * estimate), TURN_SECONDS)
+        spent = strategy.spent / 2 if self.preparation.is_fruitful() else strategy.spent
+        seconds = max(min(spent, 2 * estimate), TURN_SECONDS)
         seconds = min(seconds, self.end - self.seconds_so_far())
         if strategy is not first:
             seconds = min(seconds, seconds_for_others)
@@ -416,15 +454,19 @@ class Portfolio:
         """Whether there is anything more to be had, and time.
 
         After a tree it goes on only where a shorter one is wanted and this one has more than
-        SHORT_TREE nodes; then it sets `end` to some times the seconds so far. After one for a worse
+        SHORT_TREE nodes, or where it has more than LARGE_TREE; then it sets `end` to some times the
+        seconds so far. After one for a worse
         bound it does not: other strategies meet the same nodes.
         """
         if self.bound is not None:
             return False
         if self.best is not None:
-            if not self.shortens or self.best.nodes <= SHORT_TREE:
+            if self.best.nodes <= (SHORT_TREE if self.shortens else LARGE_TREE):
                 return False
-            self.end = min(self.end, (1 + SHORTER_TIMES) * self.seconds_so_far() + SHORTER_SECONDS)
+            times, more = LARGE_TREE_TIMES, 0.0
+            if self.shortens:
+                times, more = SHORTER_TIMES, SHORTER_SECONDS
+            self.end = min(self.end, (1 + times) * self.seconds_so_far() + more)
         seconds = min(self.seconds_left(), self.end - self.seconds_so_far())
         return seconds > 0 and not self.deadline.is_interrupted
 
@@ -443,8 +485,8 @@ class Portfolio:
     def _is_preparation_due(self, budget: float) -> bool:
         """Whether more is made now for a further strategy, in place of a turn.
 
-        It is where no strategy goes on, else for cuts as soon as LEAST_CUT_SECONDS are there. A
-        lattice comes late, after LATTICE_AFTER_SECONDS of all, but at once where there is no value.
+        It is where no strategy goes on, else for cuts as soon as LEAST_CUT_SECONDS are there, and
+        then LEAST_ROUND_SECONDS: of less than a round of them nothing comes. A lattice comes late, after LATTICE_AFTER_SECONDS of all, but at once where there is no value.
 
         Args:
             budget: As `time_for_others` says; infinite where no strategy goes on.
@@ -455,8 +497,9 @@ class Portfolio:
         is_lattice = names[0] == THIN
         if budget == math.inf or self.has_no_value and is_lattice:
             return True
-        is_early = is_lattice and self.seconds_so_far() < LATTICE_AFTER_SECONDS
-        return budget >= LEAST_CUT_SECONDS and not is_early
+        if is_lattice:
+            return budget >= LEAST_CUT_SECONDS and self.seconds_so_far() >= LATTICE_AFTER_SECONDS
+        return budget >= (LEAST_ROUND_SECONDS if self.preparation.seconds else LEAST_CUT_SECONDS)
 
     def _prepare(self, budget: float) -> None:
         """Makes some seconds of the first preparation; where that is done a strategy begins, if it
@@ -468,25 +511,31 @@ class Portfolio:
         Args:
             budget: Seconds that there are for it.
         """
-        name = self.preparation.names[0]
+        name, began = self.preparation.names[0], self.deadline.spent()
         if name == THIN:
             self.preparation.names.pop(0)
             forms = self._lattice_forms()
             if forms:
                 strategy = self.begin(THIN, [], forms)
                 strategy.first_estimate = TURN_SECONDS if self.has_no_value else math.inf
-        elif self.cut_loop.solve_relaxation([]) is None:
+        elif self.cut_loop.solve_relaxation(self._cuts_so_far()) is None:
             self.preparation.names.pop(0)
         else:
             self._make_cuts(name, budget)
+        self.preparation.seconds += self.deadline.spent() - began
+
+    def _cuts_so_far(self) -> Sequence[ProvedCut]:
+        """Those of the last strategy that has some: what is made next stands below them."""
+        return next((s.cuts for s in reversed(self.strategies) if s.cuts), ())
 
     def _make_cuts(self, name: str, budget: float) -> None:
         """Makes some seconds of cuts below those that are there: the ones made before, else those
-        of the strategy with MIR cuts.
+        of the last strategy with cuts, whose relaxation `cut_loop` has solved.
 
-        They are done when the loop ends by itself, when they are in vain, or when they close half
-        of the gap (by SHARE_OF_REST). Then their strategy begins, where they close at least
-        LEAST_CLOSED_SHARE of the gap or there is no value to see that by, and the next is prepared.
+        They are done when the loop ends by itself or when they are in vain, MIR cuts at once. Then,
+        or when they close ENOUGH_CLOSED of the gap, a strategy begins, where they close at least
+        LEAST_CLOSED_SHARE of it or there is no value to see that by, and the next is prepared. With
+        cliques there is one for each such part of what is left of the gap.
 
         Args:
             name: The strategy's, whose kinds of cuts are made.
@@ -495,31 +544,41 @@ class Portfolio:
         loop, preparation = self.cut_loop, self.preparation
         root_bound = loop.dual_bound
         until = self.until(min(budget, max(self.seconds_so_far(), FIRST_CUT_SECONDS)))
-        below_mir: Sequence[ProvedCut] = next(
-            (s.cuts for s in self.strategies if s.name == MIR), ()
-        )
-        before = preparation.cuts or below_mir
+        before = preparation.cuts or self._cuts_so_far()
         cuts = loop.run(KINDS_OF_CUTS[name], before, until)
         preparation.add(cuts, loop.closed_share(root_bound))
         closed_share = preparation.closed_share
-        is_enough = SHARE_OF_REST * (1 - closed_share) <= 1
-        if loop.is_over(until) and not preparation.is_in_vain() and not is_enough:
+        is_done = not loop.is_over(until) or preparation.is_in_vain()
+        if not is_done and closed_share < ENOUGH_CLOSED[name]:
             return
-        preparation.names.pop(0)
+        if is_done or not self._takes_more_cuts(name):
+            preparation.names.pop(0)
         if cuts and (closed_share >= LEAST_CLOSED_SHARE or self.has_no_value):
             estimate = self._estimate_below_cuts(closed_share)
             self.begin(name, cuts).first_estimate = estimate
         preparation.begin_next()
 
+    def _takes_more_cuts(self, name: str) -> bool:
+        """Whether behind the strategy that is prepared another one of this name may come, below
+        more cuts."""
+        count = sum(bool(strategy.cuts) for strategy in self.strategies)
+        return name == CLIQUE and count < MOST_STRATEGIES_BELOW_CUTS
+
     def _estimate_below_cuts(self, closed_share: float) -> float:
-        """Seconds that a search below cuts seems to take, which close such a share of the gap:
-        those that are left of the plain one, times SHARE_OF_REST and the share of the gap that is
-        left."""
+        """Seconds that a search below cuts seems to take, which close such a share of the gap that
+        the cuts before them left.
+
+        The size of a tree is taken to be exponential in the gap: of one with N nodes it is N to the
+        power of what is left of the gap. Seconds and N are those of another strategy, of which
+        something is known. A turn is the least, so that the first one tells nothing of later ones.
+        """
         if self.has_no_value:
             return TURN_SECONDS
-        forecast = FARTHEST_FORECAST * self.seconds_so_far()
-        without_cuts = min(self.strategies[0].estimated_seconds(), forecast)
-        return without_cuts * SHARE_OF_REST * max(1 - closed_share, 0.0)
+        known = [s for s in self.strategies if not s.cuts or s.spent]
+        other = min(known, key=lambda s: s.estimated_seconds())
+        seconds = min(other.estimated_seconds(), FARTHEST_FORECAST * self.seconds_so_far())
+        share = math.pow(other.estimated_nodes(), -min(max(closed_share, 0.0), 1.0))
+        return max(seconds * max(share, LEAST_SHARE_BELOW_CUTS), TURN_SECONDS)
 
     def _lattice_forms(self) -> List[Dict[int, int]]:
         """The forms to branch on beside columns, as whole coefficients by column; none unless all

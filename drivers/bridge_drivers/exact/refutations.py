@@ -8,6 +8,7 @@ looked at, and the caller takes the first that is proved.
 
 from __future__ import annotations
 
+import contextlib
 import math
 from typing import Callable, Iterator, Optional, Union
 
@@ -107,7 +108,9 @@ class Refuter:
             if evidence.is_proved:
                 yield evidence._replace(duals={})
 
-    def by_rational_simplex(self, answer: AnswerByPlace = AnswerByPlace()) -> Iterator[Evidence]:
+    def by_rational_simplex(
+        self, answer: AnswerByPlace = AnswerByPlace(), seconds: float = math.inf
+    ) -> Iterator[Evidence]:
         """Yields what is true of a small linear program, from the basis of an answer, by the
         simplex method in fractions.
 
@@ -118,10 +121,11 @@ class Refuter:
         Args:
             answer: Its basis and values are where the method begins; without them, at the rows'
                 basis and near 0.
+            seconds: That it may take, beside the deadline.
         """
         self.task.deadline.tell_step("the simplex method in fractions")
         try:
-            ended = self._run_rational_simplex(self.program, answer)
+            ended = self._run_rational_simplex(self.program, answer, seconds)
         except SearchEnded as late:
             yield not_proved(late)
             return
@@ -135,7 +139,7 @@ class Refuter:
                 yield self.store.claim_of_ray(point, ended.ray)
             else:
                 self.store.add_point(point)
-                self.store.add_leaf(leaf)
+                self.store.add_leaf(leaf, is_exact=True)
                 yield from self.store.claim_of_optimum(point, leaf)
 
     def certify_ray(self) -> Evidence:
@@ -143,31 +147,31 @@ class Refuter:
         with the reason.
 
         Of an answer to the relaxation of an integer program nothing is tried: that says nothing of
-        the program.
-
-        Raises:
-            SearchEnded: The time ended in the simplex method in fractions.
+        the program. Where the time ends it is `not proved`, too, so that what is known is told.
         """
         if self.task.options.is_relaxation and not self.task.is_linear:
             return not_proved("only the relaxation is unbounded")
-        ray = self.find_ray()
+        try:
+            ray = self.find_ray()
+            point = None if ray is None else self._any_point()
+        except SearchEnded as ended:
+            return not_proved(ended)
         if ray is None:
             return not_proved("no exact ray was found")
-        point = self._any_point()
         if point is None:
             return not_proved("no exact point was found")
         return self.store.claim_of_ray(point, ray)
 
     def ray_of_point(self, point: Optional[Point]) -> Iterator[Evidence]:
         """Yields that the objective has no bound, by a known point and a ray. Such is looked for
-        wherever a point but no bound is known.
-
-        Raises:
-            SearchEnded: The time ended in the simplex method in fractions.
+        wherever a point but no bound is known. Where the time ends nothing is yielded, so that what
+        is known is told.
         """
         if point is None or self.store.bound is not None:
             return
-        ray = self.find_ray()
+        ray = None
+        with contextlib.suppress(SearchEnded):
+            ray = self.find_ray()
         if ray is not None:
             yield self.store.claim_of_ray(point, ray)
 
@@ -220,18 +224,21 @@ class Refuter:
         return self.store.claim_of_tree(portfolio.best)
 
     def _run_rational_simplex(
-        self, program: IntegerProgram, answer: AnswerByPlace
+        self, program: IntegerProgram, answer: AnswerByPlace, seconds: float = math.inf
     ) -> SimplexResult:
         """Runs the simplex method in fractions, from the basis of an answer, or from that of the
         rows.
 
         Args:
             program: The task's, or a cone or relaxation of it with as many columns.
+            seconds: That it may take, beside the deadline.
 
         Raises:
             SearchEnded: The time is over, or an interrupt came.
         """
-        tableau = RationalSimplex(program, lambda: self.task.deadline.check_search(0, math.inf))
+        deadline = self.task.deadline
+        until = deadline.spent() + seconds
+        tableau = RationalSimplex(program, lambda: deadline.check_search(0, until))
         columns = answer.basis.columns if answer.basis is not None else []
         tableau.install_basis(columns, answer.doubles() or [0.0] * program.n)
         return tableau.run()

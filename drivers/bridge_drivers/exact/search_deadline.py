@@ -13,6 +13,7 @@ from typing import Callable, ClassVar, Iterator, Mapping, NamedTuple, Optional
 
 from ..system.deadline import Deadline
 from ..system.errors import SearchEnded, SearchPaused
+from .clp import Clp
 from .work_limit import shorten_work
 
 PROGRESS_SECONDS = 0.5  # between two looks at what is told of the progress
@@ -20,6 +21,7 @@ GRACE_SHARE = 0.1  # of the limit, beyond it: when all has ended
 GRACE_SECONDS = 5.0  # more
 KEPT_SECONDS = 2.5  # of these, to judge what is known when the limit comes
 LEAST_VERDICT_SECONDS = 0.1
+LARGEST_LOAD = 25.0  # seconds of the wall, that one of the processor takes at most
 INTERRUPT_SECONDS = 1.0  # after an interrupt, until a step without nodes ends, too
 
 
@@ -28,8 +30,9 @@ class SearchProgress(NamedTuple):
 
     Attributes:
         step: In words, where it is no search.
-        numbers: Of a search, by name: `nodes`, `open`, `cuts`, and in the objective's own sense
-            `incumbent` and `bound`. Those that are not known are left out.
+        numbers: Of a search, by name: `nodes`, `open` ones, `closed` (the share of the tree that is
+            proved, from 0 to 1), `left` (the seconds that this share forecasts), `cuts`, and in the
+            objective's own sense `incumbent` and `bound`. Those that are not known are left out.
     """
 
     step: str = ""
@@ -39,8 +42,10 @@ class SearchProgress(NamedTuple):
 class SearchDeadline(Deadline):
     """The limit of all searches for one certificate.
 
-    All has ended a tenth and 5 s after the limit, counted from the start on the wall's clock, also
-    on a busy machine where the limit is in processor time.
+    Where a limit of the wall is asked for, all has ended a tenth and 5 s after it, or when its
+    maker says, also on a busy machine where searches have a limit in processor time. Where none is,
+    the limit is in processor time alone, and what is found does not depend on what else the machine
+    does: all has ended after LARGEST_LOAD times that.
 
     Attributes:
         process_is_ending: Of a process of a pool, whichever deadline asks: what it works is paused.
@@ -52,18 +57,31 @@ class SearchDeadline(Deadline):
 
     process_is_ending: ClassVar[bool] = False
 
-    def __init__(self, limit: float = math.inf, *, of_processor: bool = False) -> None:
+    def __init__(
+        self,
+        limit: float = math.inf,
+        *,
+        of_processor: bool = False,
+        all_within: Optional[float] = None,
+    ) -> None:
         """It begins now.
 
         Args:
-            limit: Seconds, of the wall, or where it is `of_processor` of this process's processor
-                time.
+            limit: Seconds of searches, of the wall, or where it is `of_processor` of this process's
+                processor time.
+            all_within: Seconds of the wall in which all must have ended, the last verdict too: at
+                least KEPT_SECONDS more than a limit of the wall. None: a tenth and GRACE_SECONDS
+                more; where the limit is of the processor, LARGEST_LOAD times that.
         """
         super().__init__(limit, of_processor=of_processor)
+        self._elsewhere = 0.0
+        self._is_by_wall = all_within is not None or not of_processor
+        if all_within is None:
+            all_within = _with_grace(limit) * (LARGEST_LOAD if of_processor else 1.0)
         self.on_progress: Optional[Callable[[SearchProgress], None]] = None
         self.incumbent: Optional[float] = None
         self.is_interrupted = False
-        self._all = Deadline(limit * (1 + GRACE_SHARE) + GRACE_SECONDS)
+        self._all = Deadline(all_within)
         self._verdict_share = 1.0
         self._told_at = time.monotonic()
 
@@ -88,11 +106,32 @@ class SearchDeadline(Deadline):
         finally:
             self._verdict_share = 1.0
 
-    def left_to_find(self) -> float:
-        """Seconds of the wall until what is known is told: to the limit, with KEPT_SECONDS of all
-        left to judge it. Where the limit is in processor time, only the latter counts."""
+    def spent(self) -> float:
+        """Seconds since its start by its clock, with those that were counted elsewhere."""
+        return super().spent() + self._elsewhere
+
+    def count_elsewhere(self, taken: float) -> None:
+        """Adds what the search took in other processes, in seconds shared among these, where the
+        limit is in processor time."""
+        if self.of_processor:
+            self._elsewhere += taken
+
+    def to_find(self) -> Deadline:
+        """The deadline of exact work and of CLP's solves, until what is known is told: the limit,
+        with KEPT_SECONDS of all left to judge it. Where the limit is in processor time, only the
+        latter counts: of the wall where a limit of that was asked for, else of the processor."""
         left = self.left_of_all() - KEPT_SECONDS
-        return left if self.of_processor else min(self.left(), left)
+        if not self.of_processor:
+            return Deadline(min(self.left(), left))
+        return Deadline(left) if self._is_by_wall else self.to_find_at_last()
+
+    def to_find_at_last(self) -> Deadline:
+        """The same where the limit is over and what is known may still grow by a bound: KEPT_SECONDS
+        before all must have ended, by the clock of `to_find`."""
+        if self._is_by_wall:
+            return Deadline(self.left_of_all() - KEPT_SECONDS)
+        left = _with_grace(self.seconds) - KEPT_SECONDS - self.spent()
+        return Deadline(left, of_processor=True)
 
     def check_search(self, nodes: int, until: float) -> None:
         """Looks at the time at each node of a search, and at each step of the simplex method in
@@ -114,11 +153,12 @@ class SearchDeadline(Deadline):
             raise SearchPaused(f"time ({nodes} nodes)")
 
     def interrupt(self) -> None:
-        """The user ends the search: at its next node, and exact work of this thread within
-        INTERRUPT_SECONDS; a solve of CLP ends by its own limit. Called by the handler of a signal,
-        in the main thread."""
+        """The user ends the search: at its next node, and exact work of this thread and solves of
+        CLP within INTERRUPT_SECONDS, of which a running one ends behind its slice. Called by the
+        handler of a signal, in the main thread."""
         self.is_interrupted = True
         shorten_work(Deadline(INTERRUPT_SECONDS))
+        Clp.shorten(Deadline(INTERRUPT_SECONDS))
 
     def why(self, reason: str) -> str:
         """Why a search has no tree, in words: the reason that it gives itself, or an interrupt,
@@ -147,3 +187,8 @@ class SearchDeadline(Deadline):
     def _tell(self, progress: SearchProgress) -> None:
         if self.on_progress is not None:
             self.on_progress(progress)
+
+
+def _with_grace(limit: float) -> float:
+    """When all has ended, of a limit in seconds: a tenth and 5 s after it."""
+    return limit * (1 + GRACE_SHARE) + GRACE_SECONDS

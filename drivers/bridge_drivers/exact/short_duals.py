@@ -1,33 +1,41 @@
 """Duals in few decimals, of linear programs whose exact optimum has numbers that are too long.
 
-CLP's duals are rounded. Where rounding leaves a column a reduced cost whose sign rests on a bound
-that it does not have, other duals move, so that the reduced cost is 0. Costs that are made a little
-worse leave room for rounding. The certifiers put the bounds of what comes out, `ShortDuals`, to
-what is known; `box_bound` and `rounded_bound` serve bounds of all kinds.
+Duals satisfy a system of rows and bounds, too: that of the program turned (`row_system`). So they
+are rounded as points are (`short_solutions`), and judged by the bound that they give. Where there
+is no time for that, doubles are rounded as they are (`rounded_duals`). The certifiers put the
+bounds of what comes out, `ShortDuals`, to what is known; `box_bound` and `rounded_bound` serve
+bounds of all kinds.
 """
 
 from __future__ import annotations
 
 import math
 from fractions import Fraction
-from typing import Dict, List, Mapping, NamedTuple, Optional
+from math import lcm
+from typing import Dict, List, Mapping, NamedTuple, Optional, Sequence
 
+from ..formats.numbers import LARGEST_INTEGER
 from ..model.integer_form import Box, IntegerProgram
 from ..system.deadline import Deadline
-from .clp import Clp
-from .dual_bound import DualBound, MultiplierKind, Multipliers, dual_bound, has_needed_bound
+from .dual_bound import (
+    DualBound,
+    MultiplierKind,
+    Multipliers,
+    dual_bound,
+    has_needed_bound,
+    needed_row_bound,
+)
+from .inside_direction import InsideDirection
 from .leaf_proofs import repaired_bound, rounded
-from .linear_systems import solve_exactly
-from .short_points import solve_again
-from .work_limit import check_work, checked
+from .row_system import BASE_BITS, system_of_duals
+from .shared_remainders import RoundedSolution
+from .short_solutions import Judged, ShortSolutions, Trial
+from .sum_width import leaf_sums_fit
+from .work_limit import check_work
 
-COST_MARGINS = (0.0, 1e-9, 1e-7, 1e-5)  # as shares of the largest cost
-GOOD_GAP = 1e-6  # of the objective, or of 1: a bound that is good enough
 DECIMAL_DIGITS = (8, 10, 12)  # beyond the first of the largest dual
-DIGITS_OF_BOUND = 9
-LARGE_DUAL = 1e-6  # of the largest one, from which on a dual may move
-MOST_ROUNDS = 12  # of moving duals
-TOLERANCE = 1e-7  # CLP's own
+DIGITS_OF_BOUND = 12
+MOST_COMMON_BITS = 4000  # of a common denominator of duals that fit
 NO_MULTIPLIERS = Multipliers({}, 1, MultiplierKind.DUAL)  # the leaf that rests on bounds alone
 
 
@@ -43,63 +51,101 @@ class ShortDuals(NamedTuple):
         return self.bound.value
 
 
-def short_duals(program: IntegerProgram, clp: Clp, deadline: Deadline) -> List[ShortDuals]:
-    """Duals in decimals, by the bound that they give, the best first.
+def short_duals(
+    program: IntegerProgram,
+    base: Sequence[int],
+    value: Fraction,
+    near: float,
+    deadline: Deadline,
+) -> Optional[ShortDuals]:
+    """Duals in few decimals near those of an optimum, whose bound is finite.
 
     Called where no basis is exactly optimal in narrow numbers, and for the root bound of an integer
     program.
 
     Args:
         program: Its integer marks are not looked at.
-        clp: With the program's optimum.
-        deadline: For CLP, which solves once more for each margin of the costs.
+        base: The duals by row, minimised, over 2 to the power of BASE_BITS
+            (`short_points.fixed_points`). They need not be exact.
+        value: Of the optimum, minimised, with the constant.
+        near: As of `short_points.short_point`, for reduced costs.
+        deadline: Of the search.
 
     Returns:
-        Those by the smallest margins of costs whose bound is near CLP's optimum (GOOD_GAP), with
-        all by smaller ones; or all that were found. May be empty.
+        The first whose bound is near enough, else the best; None where there is none.
+
+    Raises:
+        TimeOver: The time of all exact work is over.
     """
-    basis = clp.saved_basis()
-    found: List[ShortDuals] = []
-    largest_cost = max((abs(float(c)) for c in program.cost_fractions), default=0.0)
-    top = clp.objective() + float(program.constant_fraction)
-    for share in COST_MARGINS:
-        if share:
-            duals = duals_with_margin(program, share * largest_cost, basis, deadline)
-        else:
-            duals = clp.duals()
-        found += rounded_duals(program, dict(enumerate(duals)))
-        found.sort(key=lambda one: -one.value)
-        if found and top - float(found[0].value) <= GOOD_GAP * max(1.0, abs(top)):
-            break
-    return found
+    judge = _DualJudge(program, base, value)
+    found = ShortSolutions(
+        system_of_duals(program), base, near, judge.judged, judge.rate, deadline
+    ).find()
+    return None if found is None else found.solution
 
 
-def duals_with_margin(
-    program: IntegerProgram, margin: float, basis: bytes, deadline: Deadline
-) -> List[float]:
-    """The duals under costs that leave a margin in each column that has one bound: so much smaller
-    with a lower bound alone, larger with an upper one.
+class _DualJudge:
+    """Says exactly which bound rounded duals give."""
 
-    Reduced costs under the program's own costs then keep their signs when duals are rounded.
+    def __init__(self, program: IntegerProgram, base: Sequence[int], value: Fraction) -> None:
+        self.program = program
+        self.base = base
+        self.box = Box(program.lower, program.upper)
+        self.value = value
+        self.size = max(Fraction(1), abs(value))
 
-    Args:
-        margin: In the units of the costs, minimised; above 0.
-        basis: As `Clp.saved_basis` has it, of the optimum under the program's own costs.
+    def rate(self, inside: InsideDirection) -> float:
+        """By how much the bound changes along a direction, as a share of its size, or of 1.
 
-    Returns:
-        By row, minimised, in doubles; an empty list where CLP finds no optimum.
-    """
-    doubles = program.in_doubles()
-    costs = [
-        c - margin * ((upper is None) - (lower is None))
-        for c, lower, upper in zip(doubles.costs, program.lower, program.upper)
-    ]
-    clp = solve_again(doubles._replace(costs=costs), basis, deadline, TOLERANCE)
-    return clp.duals() if clp is not None else []
+        The first order of the rule of weak duality: what reduced costs rest on stays, and those
+        that are 0 rest on what the direction makes of them.
+        """
+        program, one = self.program, float(1 << BASE_BITS)
+        changed = 0.0
+        for i, v in enumerate(inside.direction):
+            if v:
+                sign = self.base[i] or v
+                side = program.bound_as_double(needed_row_bound(program, i, sign))
+                changed += v * (side or 0.0)
+        for j, column in enumerate(program.by_column):
+            slope = -sum(a * inside.direction[i] for i, a in column) / program.row_scale
+            if not slope:
+                continue
+            cost = program.costs[j] / program.cost_scale
+            reduced = cost - sum(a * (self.base[i] / one) for i, a in column) / program.row_scale
+            is_positive = (reduced if abs(reduced) > 1e-9 else slope) > 0
+            end = program.lower[j] if is_positive else program.upper[j]
+            changed += slope * (program.bound_as_double(end) or 0.0)
+        return abs(changed) / float(self.size)
+
+    def judged(self, solution: RoundedSolution) -> Judged[ShortDuals] | Trial:
+        """The duals, if their bound is finite."""
+        values = {j: v for j, v in enumerate(solution.fractions()) if v}
+        if any(
+            abs(v.numerator) > LARGEST_INTEGER or v.denominator > LARGEST_INTEGER
+            for v in values.values()
+        ):
+            return Trial(is_wide=True)
+        if any(not has_needed_bound(self.program, i, v) for i, v in values.items()):
+            return Trial(is_wide=False)
+        common = lcm(1, *{v.denominator for v in values.values()})
+        if common.bit_length() > MOST_COMMON_BITS:
+            return Trial(is_wide=True)
+        numerators = {i: v.numerator * (common // v.denominator) for i, v in values.items()}
+        duals = Multipliers(numerators, common, MultiplierKind.DUAL)
+        bound = dual_bound(self.program, duals, self.box)
+        if not bound.is_finite:
+            return Trial(is_wide=False)
+        if not leaf_sums_fit(self.program, duals, bound, self.box):
+            return Trial(is_wide=True)
+        gap = float((self.value - bound.value) / self.size)
+        return Judged(abs(gap), ShortDuals(duals, bound))
 
 
 def rounded_duals(program: IntegerProgram, duals: Mapping[int, float]) -> List[ShortDuals]:
     """Roundings of duals whose bound is finite, in the program's own box: of few digits first.
+
+    For the last moment, and for large programs, where no direction is looked for.
 
     Args:
         duals: By row, minimised; rows that are not named have 0.
@@ -113,81 +159,9 @@ def rounded_duals(program: IntegerProgram, duals: Mapping[int, float]) -> List[S
         check_work()
         given = rounded(program, nonzero, first_digit + places, MultiplierKind.DUAL)
         repaired, bound = repaired_bound(program, given, box)
-        short: Optional[ShortDuals] = ShortDuals(repaired, bound)
-        if not bound.is_finite:
-            judged = bound if repaired is given else dual_bound(program, given, box)
-            short = with_zero_reduced_costs(program, given, judged)
-        if short is not None:
-            found.append(short)
+        if bound.is_finite:
+            found.append(ShortDuals(repaired, bound))
     return found
-
-
-def with_zero_reduced_costs(
-    program: IntegerProgram, given: Multipliers, bound: DualBound
-) -> Optional[ShortDuals]:
-    """Duals under which columns have the reduced cost 0 that lack the bound that theirs needs.
-
-    Duals move that are those of equations, or that are not small, so that they keep their signs.
-    What lacks its bound after a move is set to 0 in the next round, too, up to MOST_ROUNDS.
-
-    Args:
-        given: The duals, of which some column lacks the bound that its reduced cost needs.
-        bound: Theirs, in the program's own box.
-
-    Returns:
-        None where there are no such duals, or they are too wide for a certificate.
-    """
-    columns = set(bound.unbounded_columns)
-    box = Box(program.lower, program.upper)
-    movable = _movable_rows(program, given)
-    for _ in range(MOST_ROUNDS):
-        check_work()
-        system = [
-            (
-                {i: a * program.cost_scale for i, a in program.matrix.column(j) if movable[i]},
-                bound.reduced_costs[j],
-            )
-            for j in checked(columns)
-        ]
-        moves = solve_exactly(system)
-        moved = None if moves is None else _moved(program, given, moves)
-        if moved is None:
-            return None
-        found = dual_bound(program, moved, box)
-        if found.is_finite:
-            return ShortDuals(moved, found) if moved.fits_certificate() else None
-        columns |= set(found.unbounded_columns)
-    return None
-
-
-def _movable_rows(program: IntegerProgram, given: Multipliers) -> List[bool]:
-    """By row whether its dual may move: it is an equation's, or larger in size than LARGE_DUAL of
-    the largest."""
-    largest = max((abs(v) for v in given.numerators.values()), default=0)
-    least = largest * LARGE_DUAL
-    return [
-        lower is not None and lower == upper or abs(given.numerators.get(i, 0)) > least
-        for i, (lower, upper) in enumerate(zip(program.row_lower, program.row_upper))
-    ]
-
-
-def _moved(
-    program: IntegerProgram, given: Multipliers, moves: Mapping[int, Fraction]
-) -> Optional[Multipliers]:
-    """The sum of duals and moves, exactly, over a denominator of both; None where one lacks the row
-    bound that its sign needs.
-
-    Args:
-        moves: By row, as numerators over the denominator of `given`.
-    """
-    common = math.lcm(1, *{v.denominator for v in moves.values()})
-    numerators: Dict[int, int] = {i: v * common for i, v in given.numerators.items()}
-    for i, v in moves.items():
-        numerators[i] = numerators.get(i, 0) + int(v * common)
-    if any(not has_needed_bound(program, i, v) for i, v in numerators.items()):
-        return None
-    nonzero = {i: v for i, v in numerators.items() if v}
-    return Multipliers(nonzero, given.denominator * common, MultiplierKind.DUAL)
 
 
 def box_bound(program: IntegerProgram) -> Optional[Fraction]:

@@ -15,12 +15,25 @@ import importlib
 import multiprocessing
 import os
 import pickle
+import queue
 import signal
 import sys
 import threading
 from concurrent.futures import BrokenExecutor, Executor, Future, ProcessPoolExecutor
 from multiprocessing import connection
-from typing import Any, Dict, Iterable, Iterator, List, NamedTuple, Optional, Sequence
+from typing import (
+    Any,
+    Callable,
+    Dict,
+    Iterable,
+    Iterator,
+    List,
+    NamedTuple,
+    Optional,
+    Sequence,
+    Tuple,
+    TypeVar,
+)
 
 from . import points
 from .search_deadline import SearchDeadline
@@ -39,9 +52,13 @@ from .work_limit import limit_work
 # how processes start: `fork` takes 3 ms for each, `spawn` 100 to 300
 START_METHOD = "fork" if sys.platform == "linux" else None
 GRACE_SECONDS = 1.0  # that a unit has to end when its process is ended
-CONNECT_SECONDS = 10.0  # for a scheduler to answer
+CONNECT_SECONDS = 10.0  # for a scheduler and its workers to answer
+LEAVE_SECONDS = 2.0  # for a scheduler to let this process go
 EXACT_POINT_SECONDS = 30.0
 MOST_CACHED_SEARCHES = 2  # of one process
+
+
+Answer = TypeVar("Answer")
 
 
 class SearchProblem(NamedTuple):
@@ -88,7 +105,8 @@ class WorkUnit(NamedTuple):
         open_nodes: Those in it that were worked partly, from its root on. What is proved of their
             siblings is replaced by a RemoteSubtree.
         pseudocosts: Of the whole search so far.
-        seconds: Of the wall, from when a process begins with it.
+        seconds: From when a process begins with it.
+        of_processor: They are of its processor time, not of the wall.
     """
 
     problem: bytes
@@ -96,6 +114,7 @@ class WorkUnit(NamedTuple):
     open_nodes: Sequence[OpenNode]
     pseudocosts: Pseudocosts
     seconds: float
+    of_processor: bool = False
 
 
 class UnitResult(NamedTuple):
@@ -105,18 +124,20 @@ class UnitResult(NamedTuple):
         proved: The subtree, where all of it is proved. Remote subtrees of the unit stand in it as
             they came.
         open_nodes: Else what is left of it, from its root to where the search stands.
-        pseudocosts: Those of the unit, and what it learnt.
+        learnt: What pseudocosts it learnt, without those that it was given.
         nodes: How many nodes more the subtree has; below 0 where more fell away than came.
         improved: A better point, where one was found; then the unit is as it was before.
         why_not_closed: Why the node does not close where the search stands; empty where it may.
+        seconds: That the unit took, by its own clock.
     """
 
     proved: Optional[ProvedSubtree]
     open_nodes: List[OpenNode]
-    pseudocosts: Pseudocosts
+    learnt: Pseudocosts
     nodes: int
     improved: Optional[ImprovedIncumbent] = None
     why_not_closed: str = ""
+    seconds: float = 0.0
 
 
 # searches of the last problems of this process by their pickled problem, but for those at work
@@ -136,7 +157,8 @@ def work(unit: WorkUnit) -> UnitResult:
     search = _search_cache.pop(unit.problem, None)
     if search is None:
         search = pickle.loads(unit.problem).search(SearchDeadline())
-    search.deadline = SearchDeadline()
+    deadline = SearchDeadline(of_processor=unit.of_processor)
+    search.deadline = deadline
     search.until = unit.seconds
     search.nodes = 0
     strong_candidates = search.branching.strong_candidates
@@ -149,14 +171,16 @@ def work(unit: WorkUnit) -> UnitResult:
         why_not_closed = fault.reason
     except SearchPaused:
         pass
-    pseudocosts = search.branching.pseudocosts
+    learnt = search.branching.pseudocosts.less(unit.pseudocosts)
     if isinstance(found, ImprovedIncumbent):
-        return UnitResult(None, [], pseudocosts, search.nodes, found)
+        return UnitResult(None, [], learnt, search.nodes, found, "", deadline.spent())
     while len(_search_cache) >= MOST_CACHED_SEARCHES:
         _search_cache.pop(next(iter(_search_cache)))
     _search_cache[unit.problem] = search
     open_nodes = search.node.open_nodes
-    return UnitResult(found, open_nodes, pseudocosts, search.nodes, None, why_not_closed)
+    return UnitResult(
+        found, open_nodes, learnt, search.nodes, None, why_not_closed, deadline.spent()
+    )
 
 
 class PoolFailed(SearchEnded):
@@ -203,13 +227,18 @@ class WorkerPool:
             The future of what `work` returns or raises.
 
         Raises:
-            PoolFailed: No process can be started (`ProcessPool`).
+            PoolFailed: It is not taken, for whatever reason: no process can be started, or the
+                connection to a cluster has ended.
         """
         try:
-            return self.executor().submit(work, unit)
-        except BrokenExecutor:
+            with contextlib.suppress(BrokenExecutor):
+                return self.executor().submit(work, unit)
             self.stop()
-        return self.executor().submit(work, unit)
+            return self.executor().submit(work, unit)
+        except SearchEnded:
+            raise
+        except Exception as fault:  # whatever an executor ends by
+            raise PoolFailed(f"no processes for the search ({fault})") from None
 
     def stop(self) -> None:
         """Ends what is worked, as far as that goes. Units can be given again afterwards."""
@@ -242,10 +271,7 @@ class ProcessPool(WorkerPool):
             PoolFailed: The system starts no process.
         """
         with signals_blocked():  # a process begins with them blocked
-            try:
-                return super().submit(unit)
-            except (ImportError, NotImplementedError, OSError) as fault:
-                raise PoolFailed(f"no processes for the search ({fault})") from None
+            return super().submit(unit)
 
     def stop(self) -> None:
         """Ends all processes: they pause, or are broken off after GRACE_SECONDS. All have ended
@@ -260,32 +286,80 @@ class ProcessPool(WorkerPool):
             self._end_line.close()
 
 
+def answered_within(seconds: float, ask: Callable[[], Answer], what: str) -> Answer:
+    """What a call answers that may never return: it is made in a thread of its own, and left there.
+
+    Args:
+        seconds: That it has.
+        ask: The call; what it raises is raised here.
+        what: Has not answered, in words.
+
+    Raises:
+        PoolFailed: The time is over.
+    """
+    answers: "queue.Queue[Tuple[Any, Optional[BaseException]]]" = queue.Queue()
+
+    def run() -> None:
+        """Makes the call, and hands over what it answers or raises."""
+        try:
+            answers.put((ask(), None))
+        except BaseException as fault:  # it is raised where it is waited for
+            answers.put((None, fault))
+
+    threading.Thread(target=run, daemon=True).start()
+    try:
+        answer, fault = answers.get(timeout=seconds)
+    except queue.Empty:
+        raise PoolFailed(f"{what} did not answer in {seconds:.3g} seconds") from None
+    if fault is not None:
+        raise fault
+    found: Answer = answer
+    return found
+
+
 class DaskPool(WorkerPool):
     """Those workers of a cluster that have this package and CLP.
 
-    What they have begun they end, some seconds after it is not wanted any more.
+    Whoever reaches the scheduler runs code as the users of its workers, and what they send back is
+    unpickled here: a cluster is trusted. What workers have begun they end, some seconds after it is
+    not wanted any more.
 
     Args:
         address: Of the scheduler.
+        seconds: In which the scheduler, and then its workers, have to answer.
 
     Raises:
         PoolFailed: There is no package, no scheduler, or no worker that can search.
     """
 
-    def __init__(self, address: str) -> None:
+    def __init__(self, address: str, seconds: float = CONNECT_SECONDS) -> None:
         """Connects to the scheduler, and asks all workers for their version. `workers` becomes the
         threads of those that are fit, and `note` says where others are not."""
+        scheduler = f"the scheduler of Dask at {address}"
         try:
             distributed: Any = importlib.import_module("distributed")
-            self.client = distributed.Client(address, timeout=CONNECT_SECONDS)
+            self.client = answered_within(
+                seconds, lambda: distributed.Client(address, timeout=seconds), scheduler
+            )
         except ImportError:
             raise PoolFailed(
                 "cluster= needs Dask's package distributed (Debian: apt install "
                 "python3-distributed)"
             ) from None
-        except (OSError, ValueError) as fault:
+        except PoolFailed:
+            raise
+        except Exception as fault:  # of the library, or of an address that it does not understand
             raise PoolFailed(f"no scheduler of Dask at {address} ({fault})") from None
-        versions = self.client.run(worker_version, on_error="return")
+        try:
+            versions = answered_within(
+                seconds,
+                lambda: self.client.run(worker_version, on_error="return"),
+                f"a worker of {scheduler}",
+            )
+        except Exception as fault:
+            self.close()
+            told = str(fault) if isinstance(fault, PoolFailed) else f"{scheduler}: {fault}"
+            raise PoolFailed(told) from None
         fit = [worker for worker, version in versions.items() if version == VERSION]
         super().__init__(sum(self.client.nthreads(fit).values()) if fit else 0)
         if len(fit) < len(versions):
@@ -294,13 +368,14 @@ class DaskPool(WorkerPool):
                 f"bridge_drivers {VERSION} or CLP's library"
             )
         if not fit:
-            self.client.close()
+            self.close()
             raise PoolFailed(self.note or f"the scheduler of Dask at {address} has no workers")
         self._started = self.client.get_executor(pure=False, workers=fit)
 
     def close(self) -> None:
-        """Leaves the cluster."""
-        self.client.close()
+        """Leaves the cluster, whether it answers or not."""
+        with contextlib.suppress(Exception):
+            answered_within(LEAVE_SECONDS, self.client.close, "the scheduler of Dask")
 
 
 def worker_version() -> str:
@@ -309,12 +384,14 @@ def worker_version() -> str:
     return VERSION if library() is not None else ""
 
 
-def open_pool(jobs: int, address: str) -> Optional[WorkerPool]:
+def open_pool(jobs: int, address: str, seconds: float = CONNECT_SECONDS) -> Optional[WorkerPool]:
     """The pool that a run asks for, of which no process is started yet.
 
     Args:
         jobs: Processes of this machine; 0: as many as this process may use processors.
         address: Of a scheduler of Dask, in place of these; "" for none.
+        seconds: That the whole search has: the scheduler and its workers have half of it to answer,
+            and at most CONNECT_SECONDS.
 
     Returns:
         None where this process searches alone. A cluster that cannot be had is a pool of no workers
@@ -322,7 +399,7 @@ def open_pool(jobs: int, address: str) -> Optional[WorkerPool]:
     """
     if address:
         try:
-            return DaskPool(address)
+            return DaskPool(address, min(CONNECT_SECONDS, max(seconds, 0.0) / 4))
         except PoolFailed as fault:
             return WorkerPool(0, str(fault))
     jobs = jobs or usable_processors()

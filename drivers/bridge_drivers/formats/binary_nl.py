@@ -11,8 +11,9 @@ from __future__ import annotations
 import struct
 from typing import Any, Dict, List
 
+from ..system.errors import NotDecimal
 from .nl_operators import COUNTED, PIECEWISE_LINEAR, operator_of
-from .numbers import shortest_decimal
+from .numbers import read_whole, shortest_decimal
 
 HEAD_LINES = 10
 BIG_ENDIAN = "2"  # in the head's line 6
@@ -51,7 +52,7 @@ def text_of_binary(data: bytes) -> bytes:
     """
     try:
         return _BinaryReader(data).text()
-    except (struct.error, IndexError) as fault:
+    except (struct.error, IndexError, NotDecimal) as fault:
         raise ValueError(str(fault)) from None
 
 
@@ -66,7 +67,7 @@ class _BinaryReader:
     """
 
     def __init__(self, data: bytes) -> None:
-        """Reads the head; ValueError or IndexError where it is none."""
+        """Reads the head; ValueError, NotDecimal or IndexError where it is none."""
         self.data = data
         self.at = 0
         for _ in range(HEAD_LINES):
@@ -75,7 +76,7 @@ class _BinaryReader:
         is_big = head[5].split("#")[0].split()[2:3] == [BIG_ENDIAN]
         self.order = ">" if is_big else "<"
         self.lines: List[str] = ["g" + head[0][1:], *head[1:HEAD_LINES]]
-        counts = [int(word) for word in head[1].split("#")[0].split()]
+        counts = [read_whole(word) for word in head[1].split("#")[0].split()]
         self.intervals: Dict[str, int] = {"b": counts[0], "r": counts[1]}
 
     def text(self) -> bytes:

@@ -16,7 +16,8 @@ import re
 import zlib
 from typing import BinaryIO, Callable, Dict, List, Mapping, NamedTuple, Optional, Tuple, cast
 
-LOOKED_AT = 4096  # bytes of a file's start that tell what it is
+LOOKED_AT = 1 << 16  # bytes of a file's start that tell what it is, behind comments too
+BYTE_ORDER_MARK = b"\xef\xbb\xbf"  # of UTF-8, in front of a text
 ELF_MARK = b"\x7fELF"
 BYTE_ORDER_MARKS = (b"\xff\xfe", b"\xfe\xff")  # of UTF-16
 MODEL_ENDS = (".nl", ".mps")
@@ -34,6 +35,8 @@ class ModelKind(enum.Enum):
     NL = "an .nl file"
     MPS = "an MPS file"
     LP = "an LP file"
+    AMPL = "a text of AMPL"
+    MINIZINC = "a text of MiniZinc"
 
 
 class Packing(enum.Enum):
@@ -149,7 +152,7 @@ def is_mps_start(start: bytes) -> bool:
     Args:
         start: The first bytes, unpacked. A file that was cut before such a line is none.
     """
-    at = 0
+    at = len(BYTE_ORDER_MARK) if start.startswith(BYTE_ORDER_MARK) else 0
     while at < len(start):
         end = start.find(b"\n", at)
         if MPS_FIRST_WORD.match(start, at):
@@ -184,17 +187,58 @@ def is_lp_start(start: bytes) -> bool:
 
 
 def is_nl_start(start: bytes) -> bool:
-    """Whether a text begins with the first two lines of an .nl file, of text (g) or binary (b)."""
-    first, _, rest = start.partition(b"\n")
+    """Whether a text begins with the first two lines of an .nl file, of text (g) or binary (b).
+
+    Lines without words, and comments, may stand before them and between them.
+    """
+    rest = _behind_comments(start)
+    first, _, rest = rest.partition(b"\n")
+    rest = _behind_comments(rest)
     is_first = NL_FIRST_LINE.fullmatch(first.rstrip(b"\r")) is not None
     return is_first and NL_SECOND_LINE.match(rest) is not None
 
 
-def model_kind_of_start(start: bytes) -> Optional[ModelKind]:
-    """The kind of a model by its first bytes, unpacked; None where they are of no model.
+def _behind_comments(start: bytes) -> bytes:
+    """A text of .nl without the lines in front that have no words, or a comment alone."""
+    at = 0
+    while at < len(start):
+        end = start.find(b"\n", at)
+        if end < 0 or start[at:end].split(b"#")[0].strip():
+            break
+        at = end + 1
+    return start[at:]
 
-    `OutputFiles` asks it of what stands at a place, and of what would be written there.
+
+MODELS_BY_END: Mapping[str, ModelKind] = {
+    ".nl": ModelKind.NL,
+    ".mps": ModelKind.MPS,
+    ".lp": ModelKind.LP,
+    **dict.fromkeys((".mod", ".dat", ".run"), ModelKind.AMPL),
+    **dict.fromkeys((".mzn", ".dzn", ".fzn"), ModelKind.MINIZINC),
+}  # what a name says that ends so, where the text does not tell
+
+
+def kind_of_model(path: str, start: bytes) -> Optional[ModelKind]:
+    """The kind of a model that stands at a path, packed or not; None where it is none.
+
+    `OutputFiles` asks it of what stands at a place, and of what would be written there, which has
+    no path. The text tells it; else the end of the name does, so that a model of another program is
+    none the less one.
+
+    Args:
+        path: Of a plain file; "" where no file is meant.
+        start: Its first bytes.
     """
+    if path and packing_of(start) is not None:
+        start = start_of_file(path)
+    stub, end = os.path.splitext(path)
+    if end.lower() in {packing.end for packing in Packing}:
+        end = os.path.splitext(stub)[1]
+    return model_kind_of_start(start) or MODELS_BY_END.get(end.lower())
+
+
+def model_kind_of_start(start: bytes) -> Optional[ModelKind]:
+    """The kind of a model by its first bytes, unpacked; None where they are of no model."""
     if is_nl_start(start):
         return ModelKind.NL
     if is_mps_start(start):
@@ -231,9 +275,11 @@ def start_of_file(path: str) -> bytes:
 def kind_of_file(path: str) -> Optional[FileKind]:
     """What a file is that is no .nl file: by what it begins with, else by the end of its name.
 
-    None where neither tells, or it cannot be opened. A packed file is not unpacked: it is of its
-    packing's kind.
+    None where neither tells, or it is no plain file that can be opened. A packed file is not
+    unpacked: it is of its packing's kind.
     """
+    if not os.path.isfile(path):  # what is taken from a pipe is gone
+        return None
     try:
         with open(path, "rb") as file:
             start = file.read(LOOKED_AT)

@@ -19,7 +19,7 @@ from array import array
 from collections import Counter, defaultdict
 from dataclasses import dataclass
 from functools import cached_property
-from typing import Dict, Iterator, List, NamedTuple, Optional, Sequence, Tuple
+from typing import Dict, Iterator, List, Mapping, NamedTuple, Optional, Sequence, Tuple
 
 import numpy as np
 from numpy.typing import NDArray
@@ -39,6 +39,7 @@ INTEGERS_BEGIN, INTEGERS_END = b"'INTORG'", b"'INTEND'"
 
 WrittenBound = Optional[bytes]  # empty where it is infinite, None where it is not set
 Places = NDArray[np.int32]
+Texts = NDArray[np.object_]
 
 
 class RowBounds(NamedTuple):
@@ -154,12 +155,9 @@ class _Section(NamedTuple):
             yield self.text[at:end]
             at = end
 
-    def records(self) -> Iterator[List[bytes]]:
-        """The words of each line behind an empty one: a line begins with a blank."""
-        for block in self.blocks():
-            for line in block.split(b"\n"):
-                if line:
-                    yield line.split(b" ")
+    def words(self) -> Iterator[List[bytes]]:
+        """The words of all lines of each block, behind an empty one: a line begins with a blank."""
+        return (block.replace(b"\n", b"").split(b" ") for block in self.blocks())
 
 
 def _sections(text: bytes) -> List[_Section]:
@@ -238,20 +236,28 @@ class _MpsReader:
         """The values of lines `SET ROW VALUE`, by the row's place; the last of a row's lines
         counts.
         """
-        return {self.place_of_row[words[2]]: words[3] for words in section.records()}
+        found: Dict[int, bytes] = {}
+        for words in section.words():
+            found.update(zip(map(self.place_of_row.__getitem__, words[2::3]), words[3::3]))
+        return found
 
     def _read_rows(self, section: _Section) -> None:
         """Reads lines `KIND ROW` into `kinds`, `rows`, `objective` and `place_of_row`."""
-        for _, kind, name in section.records():
-            if kind != b"N":
-                self.place_of_row[name] = len(self.kinds)
-                self.kinds.append(kind.decode())
-                self.rows.append(name)
-            elif self.objective:
-                self.place_of_row[name] = EXTRA_OBJECTIVE
-            else:
-                self.place_of_row[name] = OBJECTIVE
-                self.objective = name
+        objectives: List[bytes] = []
+        for words in section.words():
+            kinds, names = words[1::2], words[2::2]
+            if b"N" in kinds:
+                pairs = list(zip(kinds, names))
+                objectives += [name for kind, name in pairs if kind == b"N"]
+                kinds = [kind for kind in kinds if kind != b"N"]
+                names = [name for kind, name in pairs if kind != b"N"]
+            self.kinds += b" ".join(kinds).decode().split()
+            self.rows += names
+        self.place_of_row.update(zip(self.rows, itertools.count()))
+        self.place_of_row.update(dict.fromkeys(objectives, EXTRA_OBJECTIVE))
+        if objectives:
+            self.objective = objectives[0]
+            self.place_of_row[self.objective] = OBJECTIVE
 
     def _read_columns(self, section: _Section) -> None:
         """Reads lines `COLUMN ROW VALUE` by blocks, three words each.
@@ -260,8 +266,7 @@ class _MpsReader:
         integer.
         """
         is_integer = False
-        for block in section.blocks():
-            words = block.replace(b"\n", b"").split(b" ")
+        for block, words in zip(section.blocks(), section.words()):
             names, rows = words[1::3], words[2::3]
             values = words[3::3]
             start = 0
@@ -301,59 +306,61 @@ class _MpsReader:
     def _read_bounds(self, section: _Section) -> None:
         """Reads lines `KIND SET COLUMN VALUE` into `lower` and `upper`; some make a column integer.
 
-        Mostly the lines of a column stand together and columns in their order, so that the last
-        place tells the next one.
-        """
-        at, last = -1, b""
-        for block in section.blocks():
-            words = _words_of_bounds(block)
-            for kind, first, third, fourth in zip(
-                words[1::4], words[2::4], words[3::4], words[4::4]
-            ):
-                name = third if first else fourth
-                if name != last:
-                    last = name
-                    at = self._place_after(at, name)
-                if kind == b"LO":  # most bounds are of these two kinds
-                    self.lower[at] = fourth
-                elif kind == b"UP":
-                    self.upper[at] = fourth
-                else:
-                    self._set_bound(at, kind, fourth)
-
-    def _place_after(self, place: int, name: bytes) -> int:
-        """The place of the column of this name, which is mostly the next one.
-
-        Args:
-            place: Of the column whose bounds stand before, -1 at first.
+        Each line sets one bound of its column, or both: of several lines the last counts.
 
         Raises:
-            KeyError: No column has this name.
+            KeyError: No column has a name that stands there.
         """
-        at = (place + 1) % len(self.columns)
-        return at if self.columns[at] == name else self._place_of_column[name]
+        lower = np.array(self.lower, object)
+        upper = np.array(self.upper, object)
+        for block in section.blocks():
+            words = _words_of_bounds(block)
+            kinds = np.array(words[1::4], "S2")
+            names = [third if set_name else last for set_name, third, last in _triples(words)]
+            found = map(self._place_of_column.__getitem__, names)
+            places = np.fromiter(found, np.int64, len(names))
+            values = np.array(words[4::4], object)
+            _set_bounds(lower, LOWER_BOUNDS, kinds, places, values)
+            _set_bounds(upper, UPPER_BOUNDS, kinds, places, values)
+            for place in places[np.isin(kinds, INTEGER_BOUNDS)].tolist():
+                self.is_integer[place] = True
+        self.lower, self.upper = lower.tolist(), upper.tolist()
 
     @cached_property
     def _place_of_column(self) -> Dict[bytes, int]:
-        """The places of all columns by name, made only where one is not found at the next place."""
+        """The places of all columns by name."""
         return {name: place for place, name in enumerate(self.columns)}
 
-    def _set_bound(self, column: int, kind: bytes, value: bytes) -> None:
-        """Sets the bounds of a column, by place, as the kind of a line of BOUNDS says.
 
-        BV, LI and UI make the column integer, too.
+def _triples(words: Sequence[bytes]) -> Iterator[Tuple[bytes, bytes, bytes]]:
+    """What stands behind the kind of each line of bounds, as `_words_of_bounds` has it."""
+    return zip(words[2::4], words[3::4], words[4::4])
 
-        Args:
-            value: The number of the line, as it is written; not looked at for a kind without one.
-        """
-        if kind in LOWER_BOUNDS:
-            fixed = LOWER_BOUNDS[kind]
-            self.lower[column] = value if fixed is None else fixed
-        if kind in UPPER_BOUNDS:
-            fixed = UPPER_BOUNDS[kind]
-            self.upper[column] = value if fixed is None else fixed
-        if kind in INTEGER_BOUNDS:
-            self.is_integer[column] = True
+
+def _set_bounds(
+    bounds: Texts,
+    values_of_kinds: Mapping[bytes, WrittenBound],
+    kinds: NDArray[np.bytes_],
+    places: NDArray[np.int64],
+    values: Texts,
+) -> None:
+    """Sets bounds by column, as lines of BOUNDS say, in their order.
+
+    Args:
+        bounds: The lower or the upper ones, which are changed.
+        values_of_kinds: What each kind of line sets there; None: the value of the line.
+        kinds: By line.
+        places: By line its column.
+        values: By line, as it is written; not looked at for a kind without one.
+    """
+    own = values.copy()
+    is_set = np.zeros(len(kinds), dtype=bool)
+    for kind, value in values_of_kinds.items():
+        is_kind = kinds == kind
+        is_set |= is_kind
+        if value is not None:
+            own[is_kind] = value
+    bounds[places[is_set]] = own[is_set]  # of equal places the last one counts
 
 
 def _words_of_bounds(block: bytes) -> List[bytes]:

@@ -1,19 +1,24 @@
 """Names of constraints and variables, as AMPL writes them beside a model: stub.row and stub.col.
 
-Messages, refusals and tables of values call rows and columns by `NameLists`.
+Messages, refusals, pages and tables of values call rows and columns by `NameLists`: with controls
+escaped, and different where the file gives two of them the same name. A line of a list is the name
+of its place, also where it is empty.
 """
 
 from __future__ import annotations
 
 import contextlib
+import os
 import re
-from pathlib import Path
+from collections import Counter
 from typing import Dict, List, Optional, Sequence
 
 from ..system.text import one_line
 
 COMMENT = re.compile(rb"(?:^|[ \t])#[ \t]*(\S.*)")  # of one line
 ROWS, COLUMNS = ".row", ".col"
+OWN_LETTERS = {ROWS: "c", COLUMNS: "x"}  # of what has no name: c0, x0
+MOST_BYTES = 1 << 28  # of a list: 2^20 names of 255 bytes, which is all that the program takes
 
 
 def comment_of(line: bytes) -> str:
@@ -37,11 +42,36 @@ def numbered_name(thing: str, name: str) -> str:
     return f"{thing} ({name})" if name else thing
 
 
+def different_names(names: Sequence[str], own_names: Sequence[str]) -> List[str]:
+    """The names in their order, each of which stands once.
+
+    Where two are the same, each of them gets its own name behind it: `a(x0)` and `a(x1)`. What is
+    empty has its own name alone.
+
+    Args:
+        names: As a file has them.
+        own_names: What each is called for want of a name, all different.
+    """
+    told = [name or own for name, own in zip(names, own_names)]
+    counts = Counter(told)
+    if len(counts) == len(told):
+        return told
+    taken = set(counts)
+    for place, own in enumerate(own_names):
+        if counts[told[place]] > 1:
+            name = f"{told[place]}({own})"
+            while name in taken:
+                name += f"({own})"
+            taken.add(name)
+            told[place] = name
+    return told
+
+
 class NameLists:
     """The names beside a model; each list is read when it is first asked for.
 
-    A file has one name a line; lines without words are left out. AMPL's list of rows has the
-    constraints first and the objectives behind them.
+    A file has one name a line. AMPL's list of rows has the constraints first and the objectives
+    behind them. What is no plain file, or longer than MOST_BYTES, has no names.
     """
 
     def __init__(
@@ -70,7 +100,7 @@ class NameLists:
             constraints: How many of `rows` are constraints.
         """
         names = NameLists("", len(columns), constraints)
-        names._lists = {ROWS: list(rows), COLUMNS: list(columns)}
+        names._lists = {ROWS: _told(rows, ROWS), COLUMNS: _told(columns, COLUMNS)}
         return names
 
     def row(self, number: int) -> str:
@@ -126,10 +156,30 @@ class NameLists:
         return names[number] if 0 <= number < len(names) else ""
 
     def _read(self, ending: str) -> List[str]:
-        """The lines with words of a file beside the model; none where that cannot be read."""
-        text = b""
-        if self.stub:
-            with contextlib.suppress(OSError):
-                text = Path(self.stub + ending).read_bytes()
-        lines = map(str.strip, text.decode("utf-8", "surrogateescape").split("\n"))
-        return [one_line(line) for line in lines if line]
+        """The names of a file beside the model; none where it cannot be read as a list of names."""
+        text = _bytes_of_list(self.stub + ending) if self.stub else b""
+        lines = text.decode("utf-8", "surrogateescape").split("\n")
+        while lines and not lines[-1].strip():
+            lines.pop()
+        return _told(lines, ending)
+
+
+def _bytes_of_list(path: str) -> bytes:
+    """What stands in a list of names: nothing where it is no plain file, or too long."""
+    with contextlib.suppress(OSError, ValueError):
+        if os.path.isfile(path):  # a pipe may give nothing, and never end
+            with open(path, "rb") as file:
+                text = file.read(MOST_BYTES + 1)
+            return text if len(text) <= MOST_BYTES else b""
+    return b""
+
+
+def _told(lines: Sequence[str], ending: str) -> List[str]:
+    """Names as messages tell them: escaped and different; "" where there is none."""
+    names = [one_line(line.strip()) for line in lines]
+    own_names = [f"{OWN_LETTERS[ending]}{place}" for place in range(len(names))]
+    told = different_names(names, own_names)
+    return [
+        "" if not name and shown == own else shown
+        for name, shown, own in zip(names, told, own_names)
+    ]

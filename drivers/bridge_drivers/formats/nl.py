@@ -8,14 +8,14 @@ from __future__ import annotations
 
 import os
 import re
-from typing import List, NamedTuple, Tuple
+from typing import BinaryIO, List, NamedTuple, Tuple
 
 from ..system.files import write_new
-from ..system.errors import Damaged, ModelRefused
+from ..system.errors import Damaged, ModelRefused, NotDecimal
 from .binary_nl import text_of_binary
-from .numbers import shortest_decimal
+from .numbers import read_whole, shortest_decimal
 
-HEAD_LINE_LIMIT = 1000  # bytes of a line of the head
+HEAD_LINE_LIMIT = 1 << 17  # bytes of a line of the head: more than the proved program takes
 MOST_OPTIONS = 9
 LOOKED_THROUGH = 1 << 20  # bytes that are looked through for printed doubles
 PRINTED_DIGITS = 16  # a decimal of so many digits or more may be a printed double
@@ -42,19 +42,33 @@ class NlHeader(NamedTuple):
 def read_header(path: str) -> NlHeader:
     """What the first two lines say, which are text in both forms, text and binary.
 
+    As in the proved program lines without words, or with a comment alone, do not count.
+
     Raises:
         OSError: The file cannot be read.
-        ValueError: They are not those of an .nl file.
-        IndexError: The same.
+        Damaged: They are not those of an .nl file.
     """
     with open(path, "rb") as file:
-        first, second = (file.readline(HEAD_LINE_LIMIT).split(b"#")[0].split() for _ in range(2))
-    count = int(first[0][1:])
-    options = [str(int(word)) for word in first[1 : 1 + count]]
-    if len(options) != count or not 0 <= count <= MOST_OPTIONS:
-        raise ValueError("options")
-    objectives = int(second[2]) if len(second) > 2 else 0
-    return NlHeader(options, int(second[1]), int(second[0]), objectives)
+        first, second = _words_of_line(file), _words_of_line(file)
+    try:
+        count = read_whole(first[0][1:])
+        options = [str(read_whole(word)) for word in first[1 : 1 + count]]
+        variables, constraints = read_whole(second[0]), read_whole(second[1])
+        objectives = read_whole(second[2]) if len(second) > 2 else 0
+    except (NotDecimal, IndexError):
+        raise Damaged(path, "its first two lines are not those of an .nl file") from None
+    if len(options) != count or count > MOST_OPTIONS:
+        raise Damaged(path, "its first line has other options than it says")
+    return NlHeader(options, constraints, variables, objectives)
+
+
+def _words_of_line(file: BinaryIO) -> List[bytes]:
+    """The words of the next line that has some, without its comment; none at the file's end."""
+    while True:
+        line = file.readline(HEAD_LINE_LIMIT)
+        words = line.split(b"#")[0].split()
+        if words or not line:
+            return words
 
 
 class TextOfNl(NamedTuple):

@@ -11,6 +11,7 @@ from typing import Iterable, List, NamedTuple, Optional
 
 from .names import NameLists, comment_of
 from .nl_operators import COUNTED, PIECEWISE_LINEAR, SUM, operator_of
+from .numbers import read_whole
 
 MARK_OPENS, MARK_CLOSES = ">>", "<<"  # about the fault
 LEFT_OUT = ".."
@@ -162,7 +163,7 @@ def _node_of(line: bytes, names: NameLists) -> Optional[_Node]:
     if kind == "h":
         return _Node(f"'{rest.partition(':')[2]}'")
     if kind == "v" and _is_number(rest):
-        return _Node(names.operand(int(rest), comment_of(line)))
+        return _Node(names.operand(read_whole(rest), comment_of(line)))
     return _operator_node(line, kind, rest.split()) if kind in ("f", "o") else None
 
 
@@ -178,7 +179,7 @@ def _operator_node(line: bytes, kind: str, words: List[str]) -> Optional[_Node]:
     if not words or not _is_number(words[0]):
         return None
     if kind == "o":
-        return _operation(int(words[0]))
+        return _operation(read_whole(words[0]))
     name = comment_of(line) or f"function {words[0]}"
     return _Node(name, _number_in(words[1:]), has_arguments=True)
 
@@ -203,4 +204,4 @@ def _is_number(word: str) -> bool:
 
 def _number_in(words: List[str]) -> int:
     """The value of the first word; 0 where there is none or it is no number."""
-    return int(words[0]) if words and _is_number(words[0]) else 0
+    return read_whole(words[0]) if words and _is_number(words[0]) else 0

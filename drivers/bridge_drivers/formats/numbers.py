@@ -10,6 +10,7 @@ from __future__ import annotations
 
 import decimal as decimals_module
 import math
+from array import array
 from fractions import Fraction
 from functools import lru_cache
 from math import gcd
@@ -29,6 +30,7 @@ SIGNIFICANT = decimals_module.Context(
 
 # No text that the proved program writes comes near these limits, under which reading is quick.
 MOST_DIGITS_READ = 4000
+MOST_DIGITS_OF_COUNT = 18  # of a count, an index or an opcode, zeros in front aside
 LARGEST_EXPONENT_READ = 9999
 EXPONENT_DIGITS_READ = 6  # with a sign
 
@@ -63,6 +65,24 @@ def read_decimal(text: bytes) -> ScientificNumber:
     if abs(exponent) > LARGEST_EXPONENT_READ:
         raise NotDecimal(f"a number with the exponent {exponent}")
     return ScientificNumber(integer, exponent - len(places))
+
+
+def read_whole(word: Union[str, bytes]) -> int:
+    """The one reader of counts and indices of texts: ASCII digits without a sign.
+
+    Args:
+        word: A word of a file, or of a call.
+
+    Raises:
+        NotDecimal: The word is none, or has more digits than any count.
+    """
+    text = word.decode("latin-1") if isinstance(word, bytes) else word
+    digits = text.lstrip("0") or text[-1:]
+    if len(digits) > MOST_DIGITS_OF_COUNT:
+        raise NotDecimal(f"a number of {len(text)} characters")
+    if not (digits.isascii() and digits.isdigit()):
+        raise NotDecimal(f"no number: {text[:40]!r}")
+    return int(digits)
 
 
 @lru_cache(maxsize=1 << 16)
@@ -177,19 +197,20 @@ def decimal(value: Number) -> Tuple[str, bool]:
 def decimals(values: Sequence[Number]) -> Tuple[List[str], int]:
     """Many values as texts, in their order, and how many of the texts are not exact.
 
-    Each object that is no double is written once, since most of them stand many times. All is as
-    `decimal` does it, but a sequence of doubles alone is written faster.
+    Each value is written once, since most of them stand many times. All is as `decimal` does it,
+    but a sequence of doubles alone is written faster.
 
     Raises:
         NotDecimal: As `decimal`.
     """
     if set(map(type, values)) == {float}:
         return _shortest_decimals(values), 0
-    distinct = {id(v): v for v in values}
-    written = {key: decimal(v) for key, v in distinct.items()}
-    rounded = {key for key, (_, is_exact) in written.items() if not is_exact}
-    texts = [written[id(v)][0] for v in values]
-    return texts, sum(id(v) in rounded for v in values) if rounded else 0
+    keys = [v if isinstance(v, float) else (v.numerator, v.denominator) for v in values]
+    written = {key: decimal(v) for key, v in dict(zip(keys, values)).items()}
+    texts = [written[key][0] for key in keys]
+    if all(is_exact for _, is_exact in written.values()):
+        return texts, 0
+    return texts, sum(not written[key][1] for key in keys)
 
 
 def shortest_decimal(value: float) -> str:
@@ -210,8 +231,8 @@ def _shortest_decimals(values: Sequence[Number]) -> List[str]:
     Raises:
         NotDecimal: One of them is infinite, or not a number.
     """
-    texts = [repr(v) if v else "0" for v in require_finite(values)]
-    return [text[:-2] if text[-2:] == ".0" else text for text in texts]
+    texts = {v: repr(v).removesuffix(".0") if v else "0" for v in set(require_finite(values))}
+    return list(map(texts.__getitem__, values))
 
 
 def require_finite(values: Sequence[Number]) -> Sequence[Number]:
@@ -222,9 +243,10 @@ def require_finite(values: Sequence[Number]) -> Sequence[Number]:
     Raises:
         NotDecimal: One of them is infinite, or not a number.
     """
-    bad = next((v for v in values if isinstance(v, float) and not math.isfinite(v)), None)
-    if bad is not None:
-        raise NotDecimal(str(bad))
+    is_array = isinstance(values, array)
+    doubles = values if is_array else [v for v in values if isinstance(v, float)]
+    if not all(map(math.isfinite, doubles)):
+        raise NotDecimal(str(next(v for v in doubles if not math.isfinite(v))))
     return values
 
 

@@ -39,7 +39,7 @@ def failure_sol(nl: str, code: int, objective: int, message: Sequence[str]) -> b
 
     Raises:
         OSError: The .nl file cannot be read.
-        ValueError, IndexError: It is no .nl file.
+        Damaged: It is no .nl file.
     """
     head = read_header(nl)
     counts = [str(head.constraints), "0", str(head.variables), "0"]

@@ -1,11 +1,13 @@
-"""A file that is read once: its bytes, where they stand, and their SHA-256.
+"""A file that is read once, into a private copy with its SHA-256.
 
-What the proved program judges, what the drivers look at, and what a report's sums are of, are the
-same bytes: a pipe, a FIFO, a device, standard input and a packed file are copied into a private
-file as they are read, and no second time. A plain file is judged where it stands; its sum is told
-only where it is still the file that was opened.
+What the proved program judges, what the drivers look at, what a page shows and what a report's sums
+are of, are the same bytes: each file of a call is opened once and copied as it is read, unpacked
+where it is packed, up to a limit. Whoever writes to it later, or puts another one at its place,
+changes nothing of what is told.
 
-Each command and call reads its model by `read_model` into a `Source`, with copies in a `Workspace`.
+Each command and call reads its model by `read_model` and its certificate by `read_source` into a
+`Source`, with the copy in a `Workspace`. Of a file that is given to one call of the proved program
+alone no copy is needed (`commands.nl_bridge`).
 """
 
 from __future__ import annotations
@@ -16,37 +18,40 @@ import io
 import lzma
 import os
 import re
+import select
 import shutil
-import sys
+import stat
 import zlib
 from dataclasses import dataclass, field, replace
-from typing import BinaryIO, Iterator, NamedTuple, Optional, Sequence, Tuple
+from typing import BinaryIO, NamedTuple, Optional, Sequence, Set
 
-from ..system.errors import Damaged, NoModel, TooLarge
+from ..system.errors import Damaged, FileAction, FileFault, NoModel, TooLarge
 from . import file_kinds
-from ..system.files import new_file, private_folder
+from ..system.files import new_file, private_folder, require_path
 from .mps_repair import repair_mps
 
-STANDARD_INPUT = re.compile(r"-|/dev/stdin|(?:/dev|/proc/self)/fd/\d+")
+OPEN_FILE = re.compile(r"(?:/dev|/proc/self)/fd/(?P<number>\d{1,9})")
+STANDARD_INPUT = ("-", "/dev/stdin")
 STANDARD_NAME = "stdin"  # the stub of a model beside which no file can stand
 PIECE = 1 << 20  # bytes that are copied at once
 DAMAGES = (EOFError, ValueError, zlib.error, lzma.LZMAError)
 
-Identity = Tuple[int, int, int, int]  # device, inode, size, time of the last change in ns
-
 
 class Limits(NamedTuple):
-    """How much is read of a source that is copied.
+    """How much is read of a source, and how long somebody is waited for who writes it.
 
     Attributes:
         most_bytes: In all. The proved program takes texts up to 2^31 bytes.
         most_ratio: How many times as large as what is packed the text may be that it unpacks to.
         free_bytes: Up to which that does not count.
+        writer_seconds: That a named pipe has until somebody opens it for writing. Whoever has it
+            open is waited for as long as it takes.
     """
 
     most_bytes: int = 2**31
     most_ratio: int = 200
     free_bytes: int = 1 << 28
+    writer_seconds: float = 30.0
 
     def most_unpacked(self, packed: int) -> int:
         """The most bytes that may come out of a packed file of which `packed` bytes were read."""
@@ -59,13 +64,12 @@ class Source:
 
     Attributes:
         name: What the user calls it.
-        path: A plain file with its text: its own, or a private copy.
+        path: The private copy of its text; of a model that could not be opened the user's own path.
         stub: The path of files beside it, without an end.
         start: The first bytes of the text.
         is_mps: Whether it is an MPS file, by its first bytes or its name.
         notes: What was done to it before it was read.
-        identity: Of the file at `path` when it was opened; None where there was none.
-        digest: The SHA-256 of a copy, taken as it was made; "" of a file that stands in its place.
+        digest: The SHA-256 of the copy in hexadecimal, taken as it was made; "" where there is none.
     """
 
     name: str
@@ -74,37 +78,16 @@ class Source:
     start: bytes = b""
     is_mps: bool = False
     notes: Sequence[str] = field(default_factory=tuple)
-    identity: Optional[Identity] = None
     digest: str = ""
 
-    def is_unchanged(self) -> bool:
-        """Whether the file at `path` is still the one that was opened; no, where none was.
-
-        Decides by device, inode, size and time of the last change, and does not read it.
-        """
-        with contextlib.suppress(OSError):
-            return self.identity is not None and identity_of(os.stat(self.path)) == self.identity
-        return False
+    @property
+    def reads(self) -> Sequence[str]:
+        """The paths of what was read, for `OutputFiles`: the user's own file, and the copy."""
+        return (self.name, self.path)
 
     def sha256(self) -> Optional[str]:
-        """The SHA-256 of the bytes at `path`, in hexadecimal, for a report; None where it is lost.
-
-        The sum of a copy was taken as it was made. A file that stands in its place is read again
-        for it; it is None where that fails, or the file was another one before or behind that
-        reading.
-        """
-        if self.digest:
-            return self.digest
-        if not self.is_unchanged():  # what stands there now may be a pipe
-            return None
-        digest = hashlib.sha256()
-        try:
-            with open(self.path, "rb") as file:
-                for piece in iter(lambda: file.read(PIECE), b""):
-                    digest.update(piece)
-        except OSError:
-            return None
-        return digest.hexdigest() if self.is_unchanged() else None
+        """The SHA-256 of the text, for a report; None where nothing was read."""
+        return self.digest or None
 
 
 class Workspace:
@@ -115,11 +98,13 @@ class Workspace:
     Attributes:
         folder: Its path; "" as long as nobody asked for a path.
         count: How many paths were given.
+        streams: What can be read once alone and was, by number or path.
     """
 
     def __init__(self) -> None:
         self.folder = ""
         self.count = 0
+        self.streams: Set[str] = set()
 
     def __enter__(self) -> Workspace:
         return self
@@ -146,20 +131,23 @@ class Workspace:
         return link
 
 
-def identity_of(found: os.stat_result) -> Identity:
-    """What tells a file from another one, or from itself before it was written to."""
-    return found.st_dev, found.st_ino, found.st_size, found.st_mtime_ns
-
-
 def is_stream(word: str) -> bool:
     """Whether a path can be read once alone: standard input, a pipe, a FIFO, a device.
 
-    The names of standard input are known by their form; another path is looked at, and is no stream
+    The names of open files are known by their form; another path is looked at, and is no stream
     where nothing is there.
     """
-    if STANDARD_INPUT.fullmatch(word):
+    if _number_of(word) is not None:
         return True
     return os.path.exists(word) and not (os.path.isfile(word) or os.path.isdir(word))
+
+
+def _number_of(word: str) -> Optional[int]:
+    """The number of the open file of this process that a path names; None where it names none."""
+    if word in STANDARD_INPUT:
+        return 0
+    found = OPEN_FILE.fullmatch(word)
+    return int(found["number"]) if found else None
 
 
 def name_of_model(word: str) -> str:
@@ -180,7 +168,7 @@ def stub_of(name: str) -> str:
     """The path of files beside the model of this name, without an end; `stdin` for standard
     input.
     """
-    return STANDARD_NAME if STANDARD_INPUT.fullmatch(name) else file_kinds.stub_of(name)
+    return file_kinds.stub_of(name) if _number_of(name) is None else STANDARD_NAME
 
 
 def missing_source(word: str) -> Source:
@@ -194,31 +182,30 @@ def missing_source(word: str) -> Source:
 
 
 def read_source(name: str, workspace: Workspace, limits: Limits = Limits()) -> Source:
-    """Opens a file once, and copies what can be read once alone, or is packed, into the workspace.
+    """Opens a file once, and copies its text into the workspace; what is packed is unpacked.
 
     Args:
         name: A path, or `-` for standard input.
-        workspace: Where a copy is made; it has to outlive the answer.
-        limits: Of what is copied. A plain file that is not packed stays in its place at any size.
+        workspace: Where the copy is made; it has to outlive the answer.
+        limits: Of what is copied, and of the waiting for somebody who writes.
 
     Returns:
         The source with its start and kind; a note says where it was unpacked.
 
     Raises:
-        OSError: It cannot be read.
+        OSError, FileFault: It cannot be read, nobody writes to it, or it was read before.
         Damaged: What is packed in it cannot be unpacked.
         TooLarge: It goes on past a limit.
     """
-    with _opened(name) as stream:
+    require_path(name, FileAction.READ)
+    with _opened(name, workspace, limits) as stream:
+        _check_size(name, stream, limits)
         start = stream.read(file_kinds.LOOKED_AT)
         packing = file_kinds.packing_of(start)
         source = Source(name, name, stub_of(name))
-        if packing is None and not is_stream(name):
-            identity = identity_of(os.fstat(stream.fileno()))
-            return _with_kind(replace(source, start=start, identity=identity))
         whole = _Rejoined(start, stream)
         if packing is None:
-            return _with_kind(_copied(source, whole, workspace, whole, limits))
+            return _with_kind(_copied(source, whole, workspace, None, limits))
         try:
             unpacked = packing.unpack(io.BufferedReader(whole))
             copy = _copied(source, unpacked, workspace, whole, limits)
@@ -239,7 +226,7 @@ def read_model(word: str, workspace: Workspace, limits: Limits = Limits()) -> So
     Args:
         word: A path, a stub, or `-`; see `name_of_model`.
         workspace: Where copies are made; it has to outlive the answer.
-        limits: Of what is copied. An MPS file is read whole for its repair, at any size.
+        limits: As of `read_source`.
 
     Returns:
         The source; its notes tell of unpacking and of repairs (`repair_mps`).
@@ -248,6 +235,7 @@ def read_model(word: str, workspace: Workspace, limits: Limits = Limits()) -> So
         NoModel: There is no such file.
         OSError, Damaged, TooLarge: As `read_source`.
     """
+    require_path(word, FileAction.READ)
     name = name_of_model(word)
     if not is_stream(name) and not os.path.isfile(name):
         raise NoModel(word, file_kinds.explain_missing_model(word))
@@ -259,6 +247,7 @@ def read_model(word: str, workspace: Workspace, limits: Limits = Limits()) -> So
     if not notes:
         return source
     copy = _copied(source, io.BytesIO(repaired), workspace, None, limits)
+    os.unlink(source.path)
     return replace(copy, is_mps=True, notes=(*source.notes, *notes))
 
 
@@ -290,15 +279,61 @@ class _Rejoined(io.RawIOBase):
         return len(piece)
 
 
-@contextlib.contextmanager
-def _opened(name: str) -> Iterator[BinaryIO]:
-    """A stream of the bytes at a path, closed at the end; standard input, named `-`, stays open."""
-    if name == "-":
-        with open(sys.stdin.fileno(), "rb", closefd=False) as stream:
-            yield stream
-    else:
-        with open(name, "rb") as stream:
-            yield stream
+def _opened(name: str, workspace: Workspace, limits: Limits) -> BinaryIO:
+    """A stream of the bytes at a path, which the caller closes; an open file is read on where it is.
+
+    Raises:
+        OSError: It cannot be opened.
+        FileFault: Nobody writes to it, or it can be read once alone and was.
+    """
+    number = _number_of(name)
+    if number is not None:
+        _read_once(str(number), name, workspace)
+        return os.fdopen(os.dup(number), "rb")
+    if not stat.S_ISFIFO(os.stat(name).st_mode):
+        return open(name, "rb")
+    _read_once(os.path.realpath(name), name, workspace)
+    return _opened_fifo(name, limits.writer_seconds)
+
+
+def _read_once(key: str, name: str, workspace: Workspace) -> None:
+    """Raises FileFault where what can be read once alone was read in this workspace."""
+    if key in workspace.streams:
+        raise FileFault(name, "it was read already, and gives nothing twice", FileAction.READ)
+    workspace.streams.add(key)
+
+
+def _opened_fifo(name: str, seconds: float) -> BinaryIO:
+    """A named pipe to be read, once somebody has opened it for writing.
+
+    Args:
+        name: Its path.
+        seconds: That this is waited for.
+
+    Raises:
+        OSError: It cannot be opened.
+        FileFault: Nobody writes to it.
+    """
+    number = os.open(name, os.O_RDONLY | os.O_NONBLOCK)
+    waits = select.poll()
+    waits.register(number, select.POLLIN)
+    try:
+        if not waits.poll(seconds * 1000):
+            reason = f"it is a named pipe, and nobody wrote to it in {seconds:g} seconds"
+            raise FileFault(name, reason, FileAction.READ)
+        is_blocking = True
+        os.set_blocking(number, is_blocking)
+    except BaseException:  # a signal, too
+        os.close(number)
+        raise
+    return os.fdopen(number, "rb")
+
+
+def _check_size(name: str, stream: BinaryIO, limits: Limits) -> None:
+    """Raises TooLarge where a file says that it is larger than is read, before it is."""
+    size = os.fstat(stream.fileno()).st_size
+    if size > limits.most_bytes:
+        raise TooLarge(name, size)
 
 
 def _copied(
@@ -314,10 +349,10 @@ def _copied(
         source: What the answer is made of: its name, stub and notes stay.
         text: What is copied, to its end.
         packed: The packed stream from which `text` comes, whose count of bytes limits its size;
-            `text` itself, or None, where nothing is unpacked.
+            None where nothing is unpacked.
 
     Returns:
-        The source at its new path, with start, identity and digest of the copy.
+        The source at its new path, with start and digest of the copy.
 
     Raises:
         TooLarge: The text goes on past a limit. What was written stays in the workspace.
@@ -335,9 +370,7 @@ def _copied(
             start += piece[: file_kinds.LOOKED_AT - len(start)]
             digest.update(piece)
             copy.write(piece)
-        copy.flush()
-        identity = identity_of(os.fstat(copy.fileno()))
-    return replace(source, path=path, start=start, identity=identity, digest=digest.hexdigest())
+    return replace(source, path=path, start=start, digest=digest.hexdigest())
 
 
 def _with_kind(source: Source) -> Source:

@@ -9,16 +9,17 @@ from collections import Counter
 from dataclasses import dataclass, field
 from fractions import Fraction
 from functools import cached_property, lru_cache
-from typing import Collection, Dict, Iterator, List, NamedTuple, Optional, Sequence, Union
+from typing import Collection, Dict, Iterator, List, NamedTuple, Optional, Sequence, Tuple, Union
 
 import numpy as np
 
 from ..formats.mps import OBJECTIVE
 from ..formats.numbers import nearest_double, read_fraction
-from .linear_program import EPIGRAPH_ROW, LinearProgram
+from .linear_program import EPIGRAPH_ROW, Doubles, LinearProgram
 
 Exact = Union[int, Fraction]
 Range = List[Optional[float]]
+MissedBound = Tuple[int, float, float, float]  # a place, its value, its bounds
 
 INFINITE = 10**20  # a solver takes it for no bound
 COLUMN_KINDS = ("continuous", "binary", "integer")
@@ -100,13 +101,19 @@ def residuals(
             for is_integer, text in zip(program.is_integer, values)
         ]
     yield from _row_residuals(program, x, is_whole)
-    bounds = zip(x, program.lower.tolist(), program.upper.tolist())
-    for column, (value, lower, upper) in enumerate(bounds):
-        if not lower <= value <= upper:
-            missed = lower if value < lower else upper
-            size = abs(value) if missed else max(1.0, abs(value))
-            name = program.names.columns[column]
-            yield _residual(name, value, lower, upper, size, has_integers=is_whole[column])
+    for column, value, lower, upper in _beyond(x, program.lower, program.upper):
+        missed = lower if value < lower else upper
+        size = abs(value) if missed else max(1.0, abs(value))
+        name = program.names.columns[column]
+        yield _residual(name, value, lower, upper, size, has_integers=is_whole[column])
+
+
+def _beyond(values: Sequence[float], lower: Doubles, upper: Doubles) -> List[MissedBound]:
+    """The places at which a value is not between both bounds."""
+    at = np.array(values, dtype=np.float64)
+    places = np.flatnonzero(~((lower <= at) & (at <= upper)))
+    found = (places, at[places], lower[places], upper[places])
+    return list(zip(*(part.tolist() for part in found)))
 
 
 def _row_residuals(
@@ -120,12 +127,7 @@ def _row_residuals(
             has the tolerance of integers.
     """
     activities = program.matrix.activities_in_doubles(x)
-    bounds = zip(activities, program.row_lower.tolist(), program.row_upper.tolist())
-    missed = [
-        (row, activity, lower, upper)
-        for row, (activity, lower, upper) in enumerate(bounds)
-        if not lower <= activity <= upper
-    ]
+    missed = _beyond(activities, program.row_lower, program.row_upper)
     if not missed:
         return
     sizes = program.matrix.largest_terms([max(1.0, abs(value)) for value in x])

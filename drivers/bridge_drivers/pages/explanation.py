@@ -8,7 +8,7 @@ from functools import cached_property
 from typing import Dict, List, Mapping, NamedTuple, Optional, Sequence, Tuple
 
 from ..exact.certificate import Certificate
-from ..formats.file_kinds import model_kind_of_start
+from ..formats.file_kinds import kind_of_model
 from ..formats.names import NameLists
 from ..model.integer_form import IntegerProgram
 from ..program.verdict import Verdict
@@ -167,7 +167,7 @@ class Explanation:
             paths: Where they go.
             reads: Files that are never replaced.
         """
-        outputs = OutputFiles(reads, model_kind_of_start, overwrite=paths.overwrite)
+        outputs = OutputFiles(reads, kind_of_model, overwrite=paths.overwrite)
         lines, are_all_written = [], True
         for path, text_of in ((paths.html, self.html_page), (paths.svg, self.svg_tree)):
             if not path:

@@ -13,6 +13,8 @@ from functools import cached_property
 from itertools import islice
 from typing import Iterable, Iterator, Mapping, Sequence
 
+import numpy as np
+
 from ..system.codes import Code
 from ..model.analysis import NO_RESIDUAL, Residual, residual_of, worst_residual
 from ..model.linear_program import LinearProgram, ObjectiveTerms
@@ -100,6 +102,14 @@ class Answer:
         """
         costs = self.reduced_costs
         return None if costs is None else decimals(costs)[0]
+
+    def rounded_parts(self) -> str:
+        """What of it is only the nearest decimals of fractions, in words.
+
+        `values`, `duals` or both; "" where nothing is.
+        """
+        counts = {"values": self.rounded_values, "duals": self.rounded_duals}
+        return " and ".join(name for name, count in counts.items() if count)
 
     @cached_property
     def doubles(self) -> list[float]:
@@ -302,9 +312,9 @@ class Answer:
         columns, rows = self.program.names.columns, self.program.names.rows
         parts: list[Iterator[bytes]] = []
         if self.values is not None:
-            parts.append(_lines("col %s %s\n", zip(columns, self.values)))
+            parts.append(_lines("col", zip(columns, self.values)))
         if self.duals is not None:
-            parts.append(_lines("row %s %s\n", zip(rows, self.duals)))
+            parts.append(_lines("row", zip(rows, self.duals)))
         parts += self._suffixes()
         return b"".join(piece for part in parts for piece in part)
 
@@ -322,11 +332,11 @@ class Answer:
             return
         if costs:
             known = [pair for pair in zip(columns, costs) if pair[1] != "0"]
-            yield _lines("suffix 4 rc %s %s\n", known or [(columns[0], costs[0])])
+            yield _lines("suffix 4 rc", known or [(columns[0], costs[0])])
         of_columns, of_rows = self.found.column_basis, self.found.row_basis
         if of_columns and of_rows is not None:
-            yield _lines("suffix 0 sstatus %s %d\n", zip(columns, of_columns))
-            yield _lines("suffix 1 sstatus %s %d\n", zip(rows, of_rows))
+            yield _lines("suffix 0 sstatus", zip(columns, map(int, of_columns)))
+            yield _lines("suffix 1 sstatus", zip(rows, map(int, of_rows)))
 
 
 def exact_reduced_costs(program: LinearProgram, duals: Sequence[Fraction]) -> list[Fraction]:
@@ -357,19 +367,19 @@ def _are_near(duals: Mapping[int, Fraction], own: Sequence[Number]) -> bool:
         duals: The proved ones, by row; not each row need have one.
         own: The solver's, one for each row.
     """
-    return all(
-        abs(float(dual) - float(own[row])) <= NEAR_DUAL * max(1.0, abs(float(dual)))
-        for row, dual in duals.items()
-    )
+    proved = np.fromiter(map(float, duals.values()), np.float64, len(duals))
+    told = np.fromiter((float(own[row]) for row in duals), np.float64, len(duals))
+    tolerances = NEAR_DUAL * np.maximum(1.0, np.abs(proved))
+    return bool(np.all(np.abs(proved - told) <= tolerances))
 
 
-def _lines(form: str, pairs: Iterable[tuple[str, object]]) -> Iterator[bytes]:
-    """The bytes of lines, joined by LINES_AT_ONCE.
+def _lines(head: str, pairs: Iterable[tuple[str, object]]) -> Iterator[bytes]:
+    """The bytes of lines `HEAD NAME VALUE`, joined by LINES_AT_ONCE.
 
     Args:
-        form: A line with its end and two places for `%`.
-        pairs: What stands in these places, mostly a name and a decimal.
+        head: The words before the name.
+        pairs: Names with their values, mostly decimals.
     """
     left = iter(pairs)
     while part := list(islice(left, LINES_AT_ONCE)):
-        yield "".join(map(form.__mod__, part)).encode()
+        yield "".join([f"{head} {name} {value}\n" for name, value in part]).encode()

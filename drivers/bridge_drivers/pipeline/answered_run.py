@@ -13,10 +13,11 @@ from typing import Sequence
 from ..exact.evidence import Evidence, not_proved
 from ..program.refusal import Refusal
 from ..program.verdict import FINAL, Statement, percentage, statement_of
-from ..solvers.base import Solver, SolverAnswer, SolverStatus
+from ..solvers.base import TIME_LIMIT, Solver, SolverAnswer, SolverStatus, limit_answer
 from ..solvers.run import SolverRun
 from ..system.codes import Code
 from ..system.errors import (
+    FAULTS,
     BridgeError,
     NotDecimal,
     NotReturned,
@@ -26,6 +27,7 @@ from ..system.errors import (
     UnusableAnswer,
 )
 from ..system.errors import Interrupted
+from ..system.text import one_line, shortened
 from .answer import Answer
 from .certification import AnswerCertifier, Returned
 from .monitor import LOGGER
@@ -42,7 +44,6 @@ INTERRUPTED_WORDS = {
 # of an answer that there is no point, or no best one, where the search knows better
 CONTRADICTED = "its own answer is contradicted by what was found, which no certificate can hold"
 # a search that ends by one of these proves nothing, and the answer stands as it is
-SEARCH_FAULTS = (ArithmeticError, AssertionError, LookupError, TypeError, ValueError)
 # what reading an answer raises where it is missing or in no known form
 ANSWER_FAULTS = (UnclearAnswer, NotDecimal, LookupError, ValueError, ArithmeticError)
 
@@ -116,8 +117,7 @@ class AnsweredRun:
 
         Where that misses the model by much, or says little, it is asked once more.
 
-        It is not asked at all where an integer column has no whole number between its bounds: that
-        is infeasible.
+        It is not asked at all where that is of no use (`_unasked`).
 
         Raises:
             SolverFailed: It has no answer, or says `infeasible or unbounded`, which
@@ -125,10 +125,8 @@ class AnsweredRun:
             NotStarted: It could not be run.
             Interrupted: The run was interrupted before there was an answer.
         """
-        if not self.run.settings.relax and self.run.program.has_empty_domain():
-            title = self.solver.title
-            note = f"{title} was not asked: a whole variable has no whole number between its bounds"
-            found = SolverAnswer(SolverStatus.INFEASIBLE, "infeasible", notes=[note])
+        found = self._unasked()
+        if found is not None:
             return Answer(self.run.program, found, self.settings)
         try:
             answer = self._asked()
@@ -145,8 +143,24 @@ class AnsweredRun:
             raise SolverFailed(self.solver.title, answer.found.text)
         return answer
 
+    def _unasked(self) -> SolverAnswer | None:
+        """The answer where the solver need not be asked, with a note that says why; else None.
+
+        An integer column without a whole number between its bounds is infeasible, and where the
+        time of the run is over, that is the answer.
+        """
+        title = self.solver.title
+        if not self.run.settings.relax and self.run.program.has_empty_domain():
+            note = f"{title} was not asked: a whole variable has no whole number between its bounds"
+            return SolverAnswer(SolverStatus.INFEASIBLE, "infeasible", notes=[note])
+        if self.judge.shares.deadline.is_over():
+            found = limit_answer(TIME_LIMIT)
+            found.notes.append(f"{title} was not asked: the time was over when the model was read")
+            return found
+        return None
+
     def _asked(self) -> Answer:
-        """Runs the solver once, and makes decimals of its answer.
+        """Runs the solver once, in its share of the time, and makes decimals of its answer.
 
         Where the user interrupted it, the solver's words say so.
 
@@ -157,6 +171,7 @@ class AnsweredRun:
         """
         try:
             self.run.remove_answers()
+            self.run.take_time(self.judge.shares.for_solver(self.solver.title))
             found = self.solver.solve(self.run)
             if self.run.is_interrupted:
                 default = f"interrupted; {found.text}"
@@ -181,10 +196,12 @@ class AnsweredRun:
             was: What the first answer was, in words behind `its first answer`.
 
         Returns:
-            None where the solver has no other way, was asked so before or was interrupted, or fails
-            again.
+            None where the solver has no other way, was asked so before or was interrupted, fails
+                again, or where the time is over.
         """
         if self.run.is_retry or not self.solver.retry_words or self.run.is_interrupted:
+            return None
+        if self.judge.shares.deadline.is_over():
             return None
         self.run.is_retry = True
         try:
@@ -223,7 +240,7 @@ class AnsweredRun:
         resolution = resolve(answer, verdict, facts)
         lines = self._notes_on_answer(answer, resolution)
         place = len(lines)  # where a line on the .sol stands
-        lines += self._notes_on_search(resolution)
+        lines += self._notes_on_search(answer, resolution)
         try:
             passed_on, sol = self._checked(resolution.answer, verdict, lines, place)
         except Refusal as fault:
@@ -260,10 +277,19 @@ class AnsweredRun:
             lines.insert(0, CONTRADICTED if is_known else "its own answer: " + own)
         return lines
 
-    def _notes_on_search(self, resolution: Resolution) -> list[str]:
-        """Lines on the search: that the user ended it, the objective of another point, and that the
-        solver's word alone makes a proved point optimal."""
+    def _notes_on_search(self, answer: Answer, resolution: Resolution) -> list[str]:
+        """Lines on the search.
+
+        They say what became of a start, how a limit of time was divided that the solver or the search reached, that the
+        user ended the search, the objective of another point, and that the solver's word alone
+        makes a proved point optimal.
+        """
         lines = []
+        if self.judge.start_note:
+            lines.append(self.judge.start_note)
+        shares = self.judge.shares.words()
+        if shares and (self.judge.is_out_of_time or TIME_LIMIT in answer.found.text):
+            lines.append(shares)
         if self.judge.is_interrupted:
             lines.append("interrupted: the search for a certificate was ended")
         if resolution.kind:
@@ -359,10 +385,10 @@ class AnsweredRun:
             raise NotReturned(fault.text) from None
         except OSError as fault:
             return not_proved(f"{fault.filename}: {fault.strerror}")
-        except SEARCH_FAULTS as fault:
+        except FAULTS as fault:
             if self.settings.shows_faults:
                 raise
-            return not_proved(f"a fault of the driver: {fault!r}")
+            return not_proved(f"a fault of the driver: {shortened(one_line(repr(fault)))}")
 
 
 def with_proved_duals(answer: Answer, verdict: Evidence, told: str) -> Answer | None:

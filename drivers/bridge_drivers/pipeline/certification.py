@@ -8,18 +8,19 @@ Nothing in it rests on this package: the certificate is a text about the model's
 from __future__ import annotations
 
 from fractions import Fraction
-from typing import Mapping, NamedTuple, Sequence
+from typing import Mapping, NamedTuple, Optional, Sequence
 
 from ..exact import clp
 from ..exact.worker_pools import WorkerPool, open_pool
 from ..exact.certificate import lines_of_answer
 from ..exact.certifier import certify
-from ..exact.evidence import NOT_PROVED, AnswerClaim, Evidence, not_proved
+from ..exact.evidence import NOT_PROVED, AnswerByPlace, AnswerClaim, Evidence, not_proved
 from ..exact.search_deadline import SearchDeadline, SearchProgress
 from ..exact.task import SearchOptions
 from ..model.analysis import TOLERANCE_OF_INTEGERS, worst_residual
 from ..model.linear_program import EPIGRAPH_COLUMN
-from ..system.errors import ProgramFailed, UnsupportedModel
+from ..system.deadline import Deadline
+from ..system.errors import DeadlineExceeded, ProgramFailed, UnsupportedModel
 from ..system.signals import interrupts_to
 from ..program.bridge import Bridge
 from ..program.refusal import Refusal
@@ -31,14 +32,18 @@ from ..formats.numbers import decimal, decimal_or_fraction
 from .answer import Answer
 from .answer_places import answer_by_place
 from .judge import CertificateJudge
+from .judged_start import judged_start
 from .monitor import Monitor
 from .row_factors import whole_form
-from .settings import CERTIFICATE_SECONDS, Settings
+from .settings import Settings
 from .stored_certificate import CertificateStore, StoredCertificate
+from .start_point import StartPoint
+from .time_shares import TimeShares
 
 ONE_LEAF_SECONDS = 1.0  # of a search without prove=1
 LARGE_PROGRAM = 400_000  # bytes of an exported program that have a second each
 LEAST_SHARE = 1e-15  # of the largest term: less is not told by doubles
+OUT_OF_TIME = "no verdict, since the time was over"
 PLACES = 9  # decimals that doubles are rounded to, where they do not pass as they are
 NO_SEARCH = (
     "prove=1 needs the library of CLP, which is not there (Debian: apt install coinor-libclp1)"
@@ -83,18 +88,28 @@ class AnswerCertifier:
         run: The solver's run, with the program and a folder for files.
         settings: Those of the whole run.
         monitor: Is told what goes on, and the seconds of each part.
+        shares: Of the time of the whole run.
         program: That of the run.
         is_mps: The model is an MPS file, of which no .sol is made: values are judged by a
             certificate.
         is_relaxed: The program has integer variables, and they are relaxed.
         is_interrupted: The last search for a certificate was ended by the user.
+        is_out_of_time: The last long search had all its time.
         pool_note: A line for the message on the processes that searched; "" where there is nothing
             to say.
         store: Keeps the certificate that is accepted.
+        start: Values that the search may begin with; None where there are none.
+        start_note: A line for the message where it did; "" where it did not.
     """
 
     def __init__(
-        self, bridge: Bridge, model: str, run: SolverRun, settings: Settings, monitor: Monitor
+        self,
+        bridge: Bridge,
+        model: str,
+        run: SolverRun,
+        settings: Settings,
+        monitor: Monitor,
+        shares: Optional[TimeShares] = None,
     ) -> None:
         """For one run of a solver, whose program decides what is judged how.
 
@@ -104,17 +119,23 @@ class AnswerCertifier:
             run: The solver's run, which need not have begun.
             settings: Those of the whole run.
             monitor: Is told what goes on.
+            shares: Of the time of the whole run; None for no limit.
         """
         self.bridge = bridge
         self.model = model
         self.run = run
         self.settings = settings
         self.monitor = monitor
+        self.shares = shares or TimeShares(Deadline())
         self.program = run.program
         self.is_mps = not run.program.is_exported
         self.is_relaxed = bool(run.program.integer_count) and run.settings.relax
         self.is_interrupted = False
+        self.is_out_of_time = False
         self.pool_note = ""
+        self.start: Optional[StartPoint] = None
+        self.start_note = ""
+        self._known: dict[str, float] = {}
         self.store = CertificateStore(
             bridge,
             model,
@@ -169,14 +190,23 @@ class AnswerCertifier:
             verdict: What is proved.
 
         Returns:
-            As `check_words` and `feasible_words`; or why the proved program refuses it.
+            As `check_words` and `feasible_words`; or why the proved program refuses it, or that the
+                time was over.
         """
+        try:
+            return self._checked_in_time(returned, verdict)
+        except DeadlineExceeded:
+            return OUT_OF_TIME
+
+    def _checked_in_time(self, returned: Returned, verdict: Evidence) -> str:
+        """As `checked`; raises DeadlineExceeded where the verdict takes too long."""
         answer, sol = returned
         if not self.is_mps and answer.duals is not None and self.run.is_continuous():
             path = self.run.path("bridge.sol")
             try:
                 with self.monitor.timing("check"):
-                    return self.check_words(self.bridge.check(self.model, path))
+                    deadline = self.shares.for_verdict()
+                    return self.check_words(self.bridge.check(self.model, path, deadline))
             except Refusal as fault:
                 return fault.text.removeprefix(path + ": ")
         values = read_sol(sol)[1] if sol else self._values_of_file(answer)
@@ -198,13 +228,16 @@ class AnswerCertifier:
 
         Args:
             values: A decimal for each of the file's variables.
+
+        Raises:
+            DeadlineExceeded: The verdict takes too long.
         """
         objective = 0 if self.is_mps else self.settings.objective
         text = "\n".join(lines_of_answer(values, [], objective)) + "\n"
         path = self.run.write("values.certificate", text.encode())
         try:
             with self.monitor.timing("check"):
-                judged = self.bridge.verify(self.model, path)
+                judged = self.bridge.verify(self.model, path, self.shares.for_verdict())
         except Refusal as fault:
             return fault.text.removeprefix(path + ": ")
         if judged.statement is not None and judged.statement.value is not None:
@@ -225,11 +258,16 @@ class AnswerCertifier:
         proves = settings.prove and not self.run.is_interrupted
         deadline = self._deadline(is_search=proves)
         judge = CertificateJudge(self.bridge, self.model, self.run.path("certificate"), deadline)
-        pool = open_pool(settings.processes, settings.cluster) if proves else None
+        seconds = deadline.left()
+        pool = open_pool(settings.processes, settings.cluster, seconds) if proves else None
+        self._known = {}
         self.monitor.progress.begin("certificate", deadline.seconds)
         try:
             with self.monitor.timing("certify"):
-                evidence = self.searched(answer, judge, pool, proves=proves)
+                start = self.certified_start(answer, judge)
+                evidence = self.searched(answer, judge, pool, start, proves=proves)
+                if start is not None and not evidence.is_proved:
+                    evidence = start
         finally:
             self.monitor.progress.begin("")
             if pool is not None:
@@ -238,6 +276,7 @@ class AnswerCertifier:
                 if pool.fault:
                     self.pool_note = "the search went on in one process: " + pool.fault
         self.is_interrupted = deadline.is_interrupted
+        self.is_out_of_time = proves and deadline.is_over()
         is_point = CLAIM_OF_STATUS[answer.found.status] is AnswerClaim.POINT
         is_open = is_point and not self.is_relaxed and not evidence.is_proved
         if is_open and len(self.program.text) > LARGE_PROGRAM:
@@ -248,16 +287,14 @@ class AnswerCertifier:
         """The time of a search.
 
         Args:
-            is_search: A long one: it has the limit, in seconds of the wall. Else it has a second of
-                the processor, or one for each LARGE_PROGRAM bytes of the program where that is
-                more, and at most the limit.
+            is_search: A long one: it has all of its share, in seconds of the wall. Else it has a
+                second of the processor, or one for each LARGE_PROGRAM bytes of the program where
+                that is more, and at most its share.
         """
-        limit = self.settings.time_limit or CERTIFICATE_SECONDS
         if is_search:
-            return SearchDeadline(limit)
+            return self.shares.for_search()
         by_size = len(self.program.text) / LARGE_PROGRAM
-        limit = min(max(by_size, ONE_LEAF_SECONDS), limit)
-        return SearchDeadline(limit, of_processor=True)
+        return self.shares.for_search(max(by_size, ONE_LEAF_SECONDS))
 
     def _by_answer_itself(
         self, judge: CertificateJudge, answer: Answer, evidence: Evidence
@@ -275,8 +312,23 @@ class AnswerCertifier:
             may_be_unbounded=evidence.may_be_unbounded,
         )
 
+    def certified_start(self, answer: Answer, judge: CertificateJudge) -> Evidence | None:
+        """The start where it is a feasible point and better than the answer; sets `start_note`."""
+        self.start_note = ""
+        if self.start is None or self.is_relaxed:
+            return None
+        found = judged_start(self.start, answer, lambda values: self.judged(judge, values, []))
+        self.start_note = found.note
+        return found.evidence
+
     def searched(
-        self, answer: Answer, judge: CertificateJudge, pool: WorkerPool | None, *, proves: bool
+        self,
+        answer: Answer,
+        judge: CertificateJudge,
+        pool: WorkerPool | None,
+        start: Evidence | None = None,
+        *,
+        proves: bool,
     ) -> Evidence:
         """What the search proves of an answer, or why it proves nothing.
 
@@ -289,6 +341,8 @@ class AnswerCertifier:
             judge: Of the certificates; its deadline is that of the search, and starts anew where
                 nothing is proved by a long one.
             pool: Other processes that search; None for none.
+            start: A certified point that is better than the answer, and takes its place; None for
+                none.
             proves: Whether long searches are wanted.
 
         Returns:
@@ -311,29 +365,44 @@ class AnswerCertifier:
         if not proves:
             judge.deadline.restart()
         given = answer_by_place(answer)
-        if given.duals is not None:
+        if given.duals is not None and factors:
             duals = {row: factors.get(row, 1) * dual for row, dual in given.duals.items()}
             given = given._replace(duals=duals)
+        claim = CLAIM_OF_STATUS[answer.found.status]
+        if start is not None:
+            claim, given = AnswerClaim.POINT, AnswerByPlace(start.point)
         with interrupts_to(judge.deadline.interrupt):
             evidence = certify(
                 program,
                 judge,
-                claim=CLAIM_OF_STATUS[answer.found.status],
+                claim=claim,
                 answer=given,
                 deadline=judge.deadline,
                 on_progress=self._tell,
                 options=options,
                 pool=pool,
             )
+        if not factors:
+            return evidence
         exported = {row: dual / factors.get(row, 1) for row, dual in evidence.duals.items()}
         return evidence._replace(duals=exported)
 
     def _tell(self, progress: SearchProgress) -> None:
-        """Tells the line of progress what the search is at: its numbers, else its step in words."""
-        if progress.numbers:
-            self.monitor.progress.tell_numbers(progress.numbers)
+        """Tells the line of progress what the search is at: its step, and what is known so far.
+
+        A bound that is told beside `cuts` is no claim yet: while cuts are made, that of before
+        stays.
+        """
+        found = dict(progress.numbers)
+        if "cuts" in found:
+            found.pop("bound", None)
+        elif found:
+            self._known.pop("cuts", None)
+        self._known.update(found)
+        if progress.step:
+            self.monitor.progress.tell_step(progress.step, self._known)
         else:
-            self.monitor.progress.tell(progress.step)
+            self.monitor.progress.tell_numbers(self._known)
 
     def from_answer_itself(self, judge: CertificateJudge, answer: Answer) -> Evidence:
         """What an answer proves by itself: its values and duals are the certificate.
@@ -436,7 +505,7 @@ class AnswerCertifier:
         if told.endswith(" is broken"):
             told = self.broken_words(answer, verdict, told)
         said = statement_of(verdict.line)
-        rounded = rounded_parts(answer)
+        rounded = answer.rounded_parts()
         if said is not None and said.claim is Claim.OPTIMAL and rounded:
             if told.split()[-1:] != [decimal_or_fraction(str(said.value))]:
                 told += f"; the exact {rounded} are rounded to decimals in it"
@@ -531,12 +600,3 @@ def is_point(values: Sequence[str], point: Sequence[Fraction] | None) -> bool:
 def feasible_words(value: Fraction) -> str:
     """Words that values are a feasible point, with its objective in the objective's own sense."""
     return f"feasible, objective exactly {decimal_or_fraction(str(value))}"
-
-
-def rounded_parts(answer: Answer) -> str:
-    """What of an answer is only the nearest decimals of fractions, in words.
-
-    `values`, `duals` or both; "" where nothing is.
-    """
-    counts = {"values": answer.rounded_values, "duals": answer.rounded_duals}
-    return " and ".join(name for name, count in counts.items() if count)

@@ -31,7 +31,9 @@ class ProgressEvent(NamedTuple):
         stage: What goes on: the name of a solver, or `certificate`.
         seconds: Since it began, of the wall.
         numbers: What is known, by name: `incumbent` and `bound` in the objective's own sense,
-            `objective` of a relaxation, `nodes`, `open`, `iterations`, `cuts`.
+            `objective` of a relaxation, `nodes`, `open`, `iterations`, `cuts`, and of a search for
+            a certificate `closed`, the share of the tree that is proved (from 0 to 1), and `left`,
+            the seconds that this share forecasts.
     """
 
     stage: str
@@ -91,6 +93,8 @@ class Monitor(RunObserver):
         progress: What the run is at.
         read_line: Gives the numbers that a line of the solver's log tells, by name; set once the
             solver and its program are known.
+        maximise: The sense of the objective, by which a better incumbent or bound is known; set
+            with it.
     """
 
     def __init__(
@@ -107,6 +111,7 @@ class Monitor(RunObserver):
         self.seconds: dict[str, float] = {}
         self.progress = ObservedProgress(on_progress)
         self.read_line: Callable[[str], Numbers] = lambda line: {}
+        self.maximise = False
         self._known: dict[str, float] = {}
 
     @contextlib.contextmanager
@@ -142,8 +147,19 @@ class Monitor(RunObserver):
         SOLVER_LOGGER.info("%s", line)
         found = self.read_line(line)
         if found:
-            self._known.update(found)
+            self._known = self._joined(found)
             self.progress.tell_numbers(self._known)
+
+    def _joined(self, found: Numbers) -> dict[str, float]:
+        """What is known with what a line tells: the better of two incumbents, the later of others.
+
+        A heuristic of a solver may tell a point that is worse than one before.
+        """
+        joined = {**self._known, **found}
+        known = [told["incumbent"] for told in (self._known, found) if "incumbent" in told]
+        if known:
+            joined["incumbent"] = max(known) if self.maximise else min(known)
+        return joined
 
     def process_ended(self, spent: float) -> None:
         """Counts the seconds of a solver's process for the part `solver`."""

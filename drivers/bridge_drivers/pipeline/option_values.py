@@ -9,17 +9,22 @@ from __future__ import annotations
 import math
 import os
 import shlex
+from fractions import Fraction
 from typing import Any, Callable, Dict, List, Mapping, NamedTuple, Sequence
 
 from ..solvers import SOLVERS
 from ..solvers.settings import SolverOption, SolverSettings
 from ..system.errors import WrongOption
-from ..system.text import did_you_mean
+from ..system.text import did_you_mean, shortened
 from .settings import CertificateSettings, OutputSettings, Settings
+from .start_point import Start
 
 WRITTEN_SOL = 1  # parts of `wantsol`
 PRINTED_VALUES = 2
 PRINTED_DUALS = 4
+MOST_OBJECTIVES = 1 << 32  # that the proved program counts
+MOST_PROCESSES = 1024  # and threads: what a word asks for by mistake is not started
+LONGEST_LIMIT = 1e9  # seconds, of 31 years: a longer limit is this one
 
 
 class Kind(NamedTuple):
@@ -112,6 +117,16 @@ def _choice(*known: str) -> Callable[[Any], str]:
     return take
 
 
+def _start(value: Any) -> Start:
+    """A path as a str, or a mapping of names to numbers as fractions; TypeError of anything else.
+
+    Doubles are taken as their shortest decimals; ValueError of what is infinite or no number.
+    """
+    if not isinstance(value, Mapping):
+        return _path(value)
+    return {_text(name): Fraction(str(number)) for name, number in value.items()}
+
+
 def _words(value: Any) -> List[str]:
     """A list of words: those of a sequence of texts, or those that a shell splits one text into."""
     if isinstance(value, str):
@@ -125,7 +140,7 @@ def _kind(title: str, take: Callable[[Any], object], read: Callable[[str], objec
 
 
 SWITCH = _kind("0 or 1", _switch, int)
-COUNT = _kind("a whole number from 0 on", _whole(0), int)
+COUNT = _kind(f"a whole number from 0 to {MOST_PROCESSES}", _whole(0, MOST_PROCESSES), int)
 FILE = _kind("a path", _path)
 TEXT = _kind("a text", _text)
 COMMON: Mapping[str, Kind] = {
@@ -139,7 +154,7 @@ COMMON: Mapping[str, Kind] = {
     "format": _kind("free or fixed", _choice("", "free", "fixed")),
     "jobs": COUNT,
     "keep": FILE,
-    "objno": _kind("a whole number from 1 on", _whole(1), int),
+    "objno": _kind(f"a whole number from 1 to {MOST_OBJECTIVES}", _whole(1, MOST_OBJECTIVES), int),
     "only": _kind("mps", _choice("", "mps")),
     "outlev": _kind("0, 1 or 2", _whole(0, 2), int),
     "overwrite": SWITCH,
@@ -150,6 +165,7 @@ COMMON: Mapping[str, Kind] = {
     "shorten": SWITCH,
     "solution": FILE,
     "solver": FILE,
+    "start": _kind("a path, or numbers by name", _start),
     "strict": SWITCH,
     "timelim": _kind("a number of seconds from 0 on", _amount(), float),
     "wantsol": _kind("a whole number from 0 to 15", _whole(0, 15), int),
@@ -200,8 +216,30 @@ def checked_values(solver: str, given: Mapping[str, object]) -> Dict[str, Any]:
         try:
             values[name] = kinds[name].take(value)
         except (TypeError, ValueError, OverflowError):
-            raise WrongOption(f"{name}={value!r}: {kinds[name].title} is wanted") from None
+            told = f"{name}={_shown(value)}"
+            raise WrongOption(f"{told}: {kinds[name].title} is wanted") from None
     return values
+
+
+def _shown(value: object) -> str:
+    """A value of Python as a message shows it; a number of very many digits in words."""
+    try:
+        return shortened(repr(value))
+    except ValueError:  # Python writes no integer of more than 4,300 digits
+        return "a number of very many digits"
+
+
+def objective_number(value: object) -> int:
+    """The number of an objective, from 0, as the calls take it.
+
+    Raises:
+        WrongOption: It is none that the proved program counts.
+    """
+    try:
+        return _whole(0, MOST_OBJECTIVES - 1)(value)
+    except (TypeError, ValueError, OverflowError):
+        told = f"objective={_shown(value)}"
+        raise WrongOption(f"{told}: a whole number from 0 is wanted") from None
 
 
 def values_of_words(solver: str, words: Sequence[str]) -> Dict[str, object]:
@@ -221,11 +259,12 @@ def values_of_words(solver: str, words: Sequence[str]) -> Dict[str, object]:
         name, equals, text = word.partition("=")
         kind = kinds.get(name)
         if not equals or kind is None:
-            raise WrongOption(f"unknown option {word};{did_you_mean(name, kinds)}".rstrip(";"))
+            told = f"unknown option {shortened(word)};{did_you_mean(name, kinds)}"
+            raise WrongOption(told.rstrip(";"))
         try:
             values[name] = kind.read(text)
         except ValueError:
-            raise WrongOption(f"{word}: {kind.title} is wanted") from None
+            raise WrongOption(f"{shortened(word)}: {kind.title} is wanted") from None
     return values
 
 
@@ -264,12 +303,13 @@ def run_settings(solver: str, values: Mapping[str, Any]) -> RunSettings:
         solver_path=get("solver", ""),
         bridge=get("bridge", ""),
         solver_settings=_solver_settings(values),
-        time_limit=get("timelim", 0.0),
+        time_limit=min(get("timelim", 0.0), LONGEST_LIMIT),
         certificate=certificate,
         objective=get("objno", 1) - 1,
         round_integers=bool(get("round", True)),
         shortest_numbers=get("shortest"),
         mps_form=get("format", ""),
+        start=get("start", ""),
         keep_folder=get("keep", ""),
         makes_sol=writes_sol,
         refuses_unclear=bool(get("failexit")),
@@ -288,6 +328,5 @@ def _solver_settings(values: Mapping[str, Any]) -> SolverSettings:
         mip_gap=get("mipgap", 0.0),
         threads=get("threads", 0),
         exact_check=bool(get("xcheck")),
-        shows_log=get("outlev", 0) >= 1,
         arguments=get("extra", ()),
     )

@@ -8,11 +8,13 @@ The drivers, MiniZinc's command and the calls of the package use it after `solve
 from __future__ import annotations
 
 import os
-from typing import List, Sequence, Tuple
+from typing import Callable, List, Sequence, Tuple
 
 from ..formats.sol import failure_sol, solution_file, with_message
-from ..formats.file_kinds import model_kind_of_start
+from ..formats.file_kinds import kind_of_model
+from ..formats.names import different_names
 from ..formats.source import Source
+from ..program.verdict import set_apart
 from ..system.files import OutputFiles, write_new
 from ..system.signals import SIGNALS
 from ..system.codes import ExitStatus
@@ -46,13 +48,8 @@ def named_duals(answer: Answer | None) -> NamedTexts:
     """
     if answer is None or answer.duals is None:
         return []
-    name_of = answer.program.own_names.row
-    has_names = bool(name_of(0))
-    return [
-        ((name_of(int(name[1:])) if has_names else "") or name, text)
-        for name, text in zip(answer.program.names.rows, answer.duals)
-        if name[1:].isdigit()
-    ]
+    program = answer.program
+    return _by_name(program.names.rows, answer.duals, program.own_names.row)
 
 
 def _by_column(answer: Answer | None, texts: Sequence[str] | None) -> NamedTexts:
@@ -66,13 +63,25 @@ def _by_column(answer: Answer | None, texts: Sequence[str] | None) -> NamedTexts
     """
     if answer is None or texts is None:
         return []
-    name_of = answer.program.own_names.column
-    has_names = bool(name_of(0))
-    return [
-        ((name_of(int(name[1:])) if has_names else "") or name, text)
-        for name, text in zip(answer.program.names.columns, texts)
-        if name[1:].isdigit()
-    ]
+    program = answer.program
+    return _by_name(program.names.columns, texts, program.own_names.column)
+
+
+def _by_name(
+    exported: Sequence[str], texts: Sequence[str], name_of: Callable[[int], str]
+) -> NamedTexts:
+    """Texts by names that are all different; those of the file's own rows or columns alone.
+
+    Args:
+        exported: The names in the exported text: a letter and the file's number, or another word
+            for what the file has not.
+        texts: One for each of these.
+        name_of: The name that the user knows, by the file's number; "" where there is none.
+    """
+    own = [(name, text) for name, text in zip(exported, texts) if name[1:].isdigit()]
+    own_names = [name for name, _ in own]
+    names = different_names([name_of(int(name[1:])) for name in own_names], own_names)
+    return [(name, text) for name, (_, text) in zip(names, own)]
 
 
 def write_outputs(
@@ -113,9 +122,10 @@ def sol_data(outcome: Outcome, source: Source, objective: int) -> bytes:
         source: An .nl file.
         objective: The number of the objective, from 0.
     """
+    lines = [*map(set_apart, outcome.lines[:-1]), outcome.lines[-1]]
     if outcome.sol is not None:
-        return with_message(outcome.sol, outcome.lines)
-    return failure_sol(source.path, outcome.code, objective, outcome.lines)
+        return with_message(outcome.sol, lines)
+    return failure_sol(source.path, outcome.code, objective, lines)
 
 
 def write_sol(source: Source, data: bytes) -> None:
@@ -125,7 +135,7 @@ def write_sol(source: Source, data: bytes) -> None:
         FileFault: It cannot be written.
     """
     with SIGNALS.deferred():
-        files = OutputFiles([source.path], model_kind_of_start, overwrite=True)
+        files = OutputFiles(source.reads, kind_of_model, overwrite=True)
         files.write(source.stub + ".sol", data)
 
 
@@ -139,7 +149,7 @@ def remove_older_sol(source: Source) -> None:
         FileFault: It cannot be removed.
     """
     if os.path.isfile(source.path) and os.access(source.path, os.R_OK):
-        OutputFiles([source.path], model_kind_of_start).remove(source.stub + ".sol")
+        OutputFiles(source.reads, kind_of_model).remove(source.stub + ".sol")
 
 
 def write_solution(outcome: Outcome, source: Source, outputs: OutputSettings) -> str:
@@ -157,8 +167,7 @@ def write_solution(outcome: Outcome, source: Source, outputs: OutputSettings) ->
     if not values:
         return f"{path} is not written: there are no values"
     data = solution_file(path, values, named_duals(outcome.answer))
-    reads = [source.path, source.name]
-    OutputFiles(reads, model_kind_of_start, overwrite=outputs.overwrite).write(path, data)
+    OutputFiles(source.reads, kind_of_model, overwrite=outputs.overwrite).write(path, data)
     return f"{path} is written"
 
 

@@ -9,8 +9,7 @@ from dataclasses import dataclass, field
 from typing import Optional
 
 from ..solvers.settings import SolverSettings
-
-CERTIFICATE_SECONDS = 60.0  # of the search for a certificate, where no limit of time is given
+from .start_point import Start
 
 
 @dataclass(frozen=True)
@@ -49,15 +48,17 @@ class Settings:
         solver: The name of the solver, a key of `solvers.SOLVERS`.
         solver_path: Its executable, where that is not on the PATH.
         bridge: The words that start the proved program; "" looks for it.
-        solver_settings: What the solver is asked; its limit of time is set by `time_limit`.
-        time_limit: Seconds of the solver, and again of the search for a certificate; 0 for no limit
-            of the solver, and CERTIFICATE_SECONDS of the search.
+        solver_settings: What the solver is asked; its limit of time is a share of `time_limit`.
+        time_limit: Seconds of the whole run, which `time_shares` divides; 0 for no limit, but of
+            the search for a certificate, and infinite for none at all.
         certificate: What is asked of the search for a certificate.
         objective: Which objective of the model, from 0.
         round_integers: Values of integer variables within 1e-5 of a whole number become that number.
         shortest_numbers: Numbers of an .nl file with 16 digits or more become the shortest ones with
             the same double. None is the same as False, but a note tells what else could be had.
         mps_form: `free` or `fixed`: how the lines of an MPS file are read; "" tries both.
+        start: What solver and search begin with: the path of a file of values, or values by name;
+            "" for the guess that the model has itself.
         keep_folder: Where the files in between are kept; "" for nowhere.
         makes_sol: The values are passed on as a .sol, which messages then name.
         refuses_unclear: That a solver says "infeasible or unbounded" is no answer.
@@ -74,6 +75,7 @@ class Settings:
     round_integers: bool = True
     shortest_numbers: Optional[bool] = None
     mps_form: str = ""
+    start: Start = ""
     keep_folder: str = ""
     makes_sol: bool = False
     refuses_unclear: bool = False

@@ -11,11 +11,11 @@ import contextlib
 import os
 import shlex
 import shutil
-from dataclasses import dataclass, field, replace
+from dataclasses import dataclass, field
 from typing import Iterator, NamedTuple, Sequence
 
 from ..exact.evidence import NOT_PROVED
-from ..formats.file_kinds import model_kind_of_start
+from ..formats.file_kinds import kind_of_model
 from ..formats.source import Source
 from ..system.files import OutputFiles, new_folder_in, private_folder
 from ..system.signals import SIGNALS
@@ -26,11 +26,12 @@ from ..program.bridge import Bridge, ModelForm, find_program
 from ..program.mps_forms import program_of_mps, read_mps_text
 from ..program.refusal import Refusal
 from ..solvers import SOLVERS
-from ..solvers.base import Solver
+from ..solvers.base import TIME_LIMIT, Solver
 from ..solvers.run import SolverRun
 from ..system.codes import Code, ExitStatus
 from ..system.errors import (
     Damaged,
+    DeadlineExceeded,
     FileAction,
     FileFault,
     ModelRefused,
@@ -42,6 +43,8 @@ from .answered_run import AnsweredRun, Outcome
 from .certification import AnswerCertifier
 from .monitor import Monitor
 from .settings import Settings
+from .start_point import StartPoint, start_point
+from .time_shares import TimeShares
 
 
 @contextlib.contextmanager
@@ -123,6 +126,7 @@ class SolveRun:
         solver: The solver that the settings name.
         bridge: The proved program, once it was found.
         folder: The absolute path of the folder for files in between, while there is one.
+        shares: Of the time of the run, which began when its monitor was made.
         solver_run_class: Makes what the solver works with; tests have one of stored runs.
     """
 
@@ -132,12 +136,16 @@ class SolveRun:
     bridge_words: Sequence[str] = ()
     solver: Solver = field(init=False)
     bridge: Bridge = field(init=False)
+    shares: TimeShares = field(init=False)
     folder: str = ""
 
     solver_run_class = SolverRun
 
     def __post_init__(self) -> None:
         self.solver = SOLVERS[self.settings.solver]
+        self.shares = TimeShares.of_limit(
+            self.settings.time_limit, self.monitor.began, proves=self.settings.certificate.prove
+        )
 
     def find_bridge(self) -> Bridge:
         """Finds the proved program, and sets `bridge_words`. Its commands are told to the monitor.
@@ -146,7 +154,9 @@ class SolveRun:
             NotInstalled: It is nowhere.
         """
         self.bridge_words = find_program(self.settings.bridge)
-        return Bridge(self.bridge_words, self.monitor.command_starts)
+        bridge = Bridge(self.bridge_words, self.monitor.command_starts)
+        bridge.deadline = self.shares.deadline
+        return bridge
 
     def find_solver(self) -> str:
         """The absolute path of the solver's executable, since it runs in another folder.
@@ -189,7 +199,7 @@ class SolveRun:
             relax = self.settings.solver_settings.relax
             path = f"{self.source.stub}.{self.solver.name}.mps"
             text = self.solver.mps_text(program if relax else program.with_rounded_bounds())
-            files = OutputFiles([self.source.path], model_kind_of_start, overwrite=overwrite)
+            files = OutputFiles(self.source.reads, kind_of_model, overwrite=overwrite)
             files.write(path, text)
         title = self.solver.title
         told = f"{path} is written, and nothing was solved; {title} reads and solves it by"
@@ -253,18 +263,40 @@ class SolveRun:
         if isinstance(read_program, Outcome):
             return read_program
         settings, program = self.settings, read_program.program
-        asked = replace(settings.solver_settings, time_limit=settings.time_limit)
+        asked = settings.solver_settings
         run = self.solver_run_class(program, asked, self.folder, solver_path, self.monitor)
+        run.stage = self.solver.name
         self.monitor.read_line = lambda line: self.solver.progress_of_line(line, program)
+        self.monitor.maximise = program.maximise
         if settings.keep_folder:
             run.write("model.mps", program.text)
         notes = [*self.source.notes, *read_program.notes, *program.notes]
-        judge = AnswerCertifier(self.bridge, read_program.path, run, settings, self.monitor)
+        nl = None if self.source.is_mps else read_program.path
+        start = start_point(program, nl, settings.start)
+        if start is not None:
+            run.start_values = start.doubles()
+            notes += self._notes_on_start(start)
+        judge = AnswerCertifier(
+            self.bridge, read_program.path, run, settings, self.monitor, self.shares
+        )
+        judge.start = start
         return AnsweredRun(self.solver, settings, run, judge, notes).outcome()
 
-    def _read(self) -> ReadProgram | Outcome:
-        """The program that is exported, or the outcome where an empty interval refuses the model.
+    def _notes_on_start(self, start: StartPoint) -> list[str]:
+        """A line on a start that the user named: how many variables have a value, and whether the
+        solver takes it.
+        """
+        if not start.is_named:
+            return []
+        told = f"start: {start.given()} of {len(start.values)} variables have a value"
+        if not self.solver.takes_start:
+            told += f"; {self.solver.title} takes no start, the search for a certificate does"
+        return [told]
 
+    def _read(self) -> ReadProgram | Outcome:
+        """The program that is exported, or the outcome of a model that no solver is asked about.
+
+        That is one whose empty interval is refused, or that was not read in the time of the run.
         Where files in between are kept, the model's text is copied there.
 
         Raises:
@@ -283,6 +315,8 @@ class SolveRun:
             program = self._exported(path)
         except Refusal as fault:
             return self._refused(fault, path)
+        except DeadlineExceeded as fault:
+            return self._late(str(fault))
         relax = self.settings.solver_settings.relax
         if program.integer_count and not self.solver.takes_integers and not relax:
             raise TakesNoIntegers(self.solver.title, program.integer_count)
@@ -338,6 +372,17 @@ class SolveRun:
             program = LinearProgram.of(self.bridge.export(path, self.settings.objective))
         program.own_names = NameLists(self.source.stub)
         return program
+
+    def _late(self, command: str) -> Outcome:
+        """The outcome of a model that was not read when the time of the run was over.
+
+        Args:
+            command: The command of the proved program that was ended.
+        """
+        is_strict = self.settings.certificate.strict
+        told = f"stopped at {TIME_LIMIT}, before the model was read (bridge {command})"
+        code = Code.UNSURE if is_strict else Code.LIMIT
+        return Outcome(code, [told, NOT_PROVED + "time"], is_final=not is_strict)
 
     def _refused(self, fault: Refusal, path: str) -> Outcome:
         """The outcome of a model that is refused for an empty interval.

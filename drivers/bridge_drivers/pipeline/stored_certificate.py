@@ -9,7 +9,7 @@ from __future__ import annotations
 import os
 from typing import NamedTuple
 
-from ..formats.file_kinds import model_kind_of_start
+from ..formats.file_kinds import kind_of_model
 from ..program.bridge import Bridge
 from ..program.verdict import statement_of
 from ..system.deadline import Deadline
@@ -62,7 +62,7 @@ class CertificateStore:
         """
         reads = [self.model, self.bridge.file_names.get(self.model, self.model)]
         try:
-            files = OutputFiles(reads, model_kind_of_start, overwrite=self.overwrite)
+            files = OutputFiles(reads, kind_of_model, overwrite=self.overwrite)
             files.write(target, accepted)
         except FileFault as fault:
             proves = self.still_proves(target, line) if isinstance(fault, FileStays) else ""

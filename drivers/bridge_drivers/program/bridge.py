@@ -35,7 +35,9 @@ BUILD_NOTES = (
     os.path.join(PACKAGE, "built.json"),  # of a package
 )  # where a note on a build stands
 LONGEST_TRIAL = 20  # seconds that a program called `bridge` has to say that it is the proved one
-OUTPUT_LIMITS = OutputLimits(memory_bytes=1 << 33)  # exported texts are long
+# a text is read back by the program, which takes 2^31 bytes; a verdict is a line
+TEXT_LIMITS = OutputLimits(memory_bytes=1 << 31, ends_beyond=True)
+VERDICT_LIMITS = OutputLimits(memory_bytes=1 << 16, ends_beyond=True)
 PIECE = 1 << 20  # bytes of a file that are read at once
 
 
@@ -115,8 +117,10 @@ def _programs_on_path(name: str) -> List[str]:
 
 
 def sha256_of_file(path: Optional[str]) -> Optional[str]:
-    """The SHA-256 of what stands at a path; None where it cannot be read."""
+    """The SHA-256 of a plain file; None where there is none that can be read."""
     digest = hashlib.sha256()
+    if not os.path.isfile(path or ""):  # a device may have no end
+        return None
     try:
         with open(path or "", "rb") as file:
             for piece in iter(lambda: file.read(PIECE), b""):
@@ -159,6 +163,8 @@ class Bridge:
         note: Is told the words of each call before it is made.
         file_names: What the user calls a file, by the path that the program is given.
         forms: What text the model at a path is, where that is no .nl file.
+        deadline: Ends the calls that read a model, and those of verdicts that have no deadline of
+            their own: that of the whole run, where it has one.
     """
 
     def __init__(
@@ -168,23 +174,31 @@ class Bridge:
         self.note = note
         self.file_names: Dict[str, str] = {}
         self.forms: Dict[str, ModelForm] = {}
+        self.deadline = Deadline()
         self._links: Optional[tempfile.TemporaryDirectory[str]] = None
 
-    def call(self, *words: str, deadline: Optional[Deadline] = None) -> Reply:
+    def call(
+        self,
+        *words: str,
+        deadline: Optional[Deadline] = None,
+        limits: OutputLimits = TEXT_LIMITS,
+    ) -> Reply:
         """One call, however it ends.
 
         Args:
             words: The command and its files.
-            deadline: When the program is ended; None for never.
+            deadline: When the program is ended; None: by the deadline of all calls.
+            limits: Of what it may write.
 
         Raises:
             NotStarted: The program cannot be run.
             DeadlineExceeded: It was ended at the deadline.
+            ProgramFailed: It wrote more than the limits, and was ended.
         """
         argv = self.argv + [self._reachable(word) for word in words]
         self.note(argv)
         try:
-            ended = run(argv, deadline or Deadline(), OUTPUT_LIMITS)
+            ended = run(argv, deadline or self.deadline, limits)
         except OSError as fault:
             raise NotStarted(argv[0], str(fault.strerror)) from None
         if ended.is_late:
@@ -209,13 +223,19 @@ class Bridge:
         """The error of a call that ended without what was asked for."""
         return Refusal(words[0], reply, words, self.file_names)
 
-    def text(self, command: Command, *files: str) -> bytes:
+    def text(self, command: Command, *files: str, deadline: Optional[Deadline] = None) -> bytes:
         """What a command prints that writes a text.
+
+        Args:
+            command: The command.
+            files: Its words.
+            deadline: As of `call`.
 
         Raises:
             Refusal: It ended with another status than 0.
+            DeadlineExceeded: It was ended at the deadline.
         """
-        reply = self.call(command.value, *files)
+        reply = self.call(command.value, *files, deadline=deadline)
         if reply.status != ExitStatus.DONE:
             raise self.refusal((command.value, *files), reply)
         return reply.out
@@ -225,8 +245,11 @@ class Bridge:
         return self.text(Command.EXPORT, model, *([str(objective)] if objective else []))
 
     def return_(self, model: str, answer: str) -> bytes:
-        """The .sol text of a solver's answer, which stands in a file, to what `export` wrote."""
-        return self.text(Command.RETURN, model, answer)
+        """The .sol text of a solver's answer, which stands in a file, to what `export` wrote.
+
+        No deadline ends it: without it there is no answer to pass on.
+        """
+        return self.text(Command.RETURN, model, answer, deadline=Deadline())
 
     def verify(self, model: str, certificate: str, deadline: Optional[Deadline] = None) -> Verdict:
         """The verdict on a certificate, over the model's own text.
@@ -234,7 +257,7 @@ class Bridge:
         Args:
             model: The path of an .nl file, or of an MPS file whose form is in `forms`.
             certificate: The path of a file.
-            deadline: When the program is ended; None for never.
+            deadline: As of `call`.
 
         Raises:
             Refusal: The program refuses the model or the certificate.
@@ -244,20 +267,26 @@ class Bridge:
         command = self.forms.get(model, ModelForm.NL).judge
         return Verdict(self._judged(command, model, certificate, deadline))
 
-    def check(self, model: str, sol: str) -> str:
+    def check(self, model: str, sol: str, deadline: Optional[Deadline] = None) -> str:
         """The line on the point and the duals of a .sol file over an .nl file.
+
+        Args:
+            model: The path of the .nl file.
+            sol: That of the .sol.
+            deadline: As of `call`.
 
         Raises:
             Refusal: The program refuses one of the files.
             NoVerdict: What it answers is no verdict.
+            DeadlineExceeded: It was ended at the deadline.
         """
-        return read_check(self._judged(Command.CHECK, model, sol, None))
+        return read_check(self._judged(Command.CHECK, model, sol, deadline))
 
     def _judged(
         self, command: Command, model: str, other: str, deadline: Optional[Deadline]
     ) -> Reply:
         """A reply with one of the two statuses that go with a verdict."""
-        reply = self.call(command.value, model, other, deadline=deadline)
+        reply = self.call(command.value, model, other, deadline=deadline, limits=VERDICT_LIMITS)
         if reply.status not in (ExitStatus.DONE, ExitStatus.FAILED):
             raise self.refusal((command.value, model, other), reply)
         return reply

@@ -2,15 +2,17 @@
 
 from __future__ import annotations
 
+import contextlib
 import itertools
 from fractions import Fraction
 from typing import List, Mapping, NamedTuple, Optional, Sequence, Tuple
 
-from ..formats.file_kinds import model_kind_of_start
-from ..formats.numbers import read_fraction
+from ..formats.file_kinds import kind_of_model
+from ..formats.numbers import read_fraction, read_whole
 from ..model.linear_program import LinearProgram
 from ..formats.mps import MpsColumns, read_mps
 from ..system.codes import ExitStatus
+from ..system.errors import NotDecimal
 from ..system.files import OutputFiles, write_new
 from .bridge import Bridge, ModelForm
 from .calls import Command, Reply
@@ -110,7 +112,9 @@ def _refusal_of_forms(bridge: Bridge, path: str, free: Reply, fixed: Reply) -> R
 def _line_of(told: str) -> int:
     """The number at the place of a refusal; 0 where there is none."""
     words = told.partition(":")[0].split()
-    return int(words[-1]) if words and words[-1].isdigit() else 0
+    with contextlib.suppress(NotDecimal, IndexError):
+        return read_whole(words[-1])
+    return 0
 
 
 def has_blank_name(path: str, number: int) -> bool:
@@ -150,9 +154,9 @@ def _try_to_judge(bridge: Bridge, path: str, certificate: str, program: LinearPr
     refusal.place = reply.told.removeprefix("refused ").partition(":")[0]
     kind, _, number = refusal.place.partition(" ")
     if number.isdigit() and kind == "row":
-        refusal.name = program.own_names.row(int(number))
+        refusal.name = program.own_names.row(read_whole(number))
     elif number.isdigit() and kind == "column":
-        refusal.name = program.own_names.column(int(number))
+        refusal.name = program.own_names.column(read_whole(number))
     raise refusal
 
 
@@ -258,7 +262,8 @@ def import_mps(bridge: Bridge, path: str, nl: str, *, overwrite: bool = False) -
         stub + ".row": b"".join(name + b"\n" for name in model.rows),
         stub + ".col": b"".join(name + b"\n" for name in model.columns),
     }
-    outputs = OutputFiles([path], model_kind_of_start, overwrite=overwrite)
+    reads = [path, bridge.file_names.get(path, path)]
+    outputs = OutputFiles(reads, kind_of_model, overwrite=overwrite)
     for target, data in texts.items():
         outputs.check(target, data)
     for target, data in texts.items():

@@ -15,12 +15,14 @@ from typing import Dict, List, Mapping, NamedTuple, Optional, Sequence, Tuple
 from ..formats import file_kinds
 from ..formats.names import NameLists, comment_of, numbered_name
 from ..formats.nl_expressions import expression_in_words
+from ..formats.numbers import read_whole
 from ..system.codes import ExitStatus
 from ..system.errors import (
     BridgeError,
     FileAction,
     FileFault,
     ModelRefused,
+    NotDecimal,
     NotInstalled,
     ProgramFailed,
     WrongOption,
@@ -338,8 +340,8 @@ def counts_of_nl(path: str) -> Tuple[Optional[int], Optional[int]]:
         with open(path, "rb") as file:
             file.readline(LONGEST_HEAD_LINE)
             words = file.readline(LONGEST_HEAD_LINE).split()
-        return int(words[0]), int(words[1])
-    except (OSError, ValueError, IndexError):
+        return read_whole(words[0]), read_whole(words[1])
+    except (OSError, NotDecimal, IndexError):
         return None, None
 
 
@@ -402,7 +404,10 @@ def place_of(segment: Segment, line: int, names: NameLists) -> str:
     if letter in PLACES:
         return PLACES[letter]
     found = re.match(rb"[A-Za-z](\d+)", segment.head)
-    number = int(found.group(1)) if found else 0
+    try:
+        number = read_whole(found.group(1) if found else b"0")
+    except NotDecimal:  # of more digits than anything is counted by
+        return "a segment"
     return _numbered_place(letter, number, comment_of(segment.head), names)
 
 

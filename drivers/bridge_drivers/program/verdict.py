@@ -42,6 +42,7 @@ NOT_PROVED = re.compile(
     rf"|leaf {PLACE} (?:too wide|gap {NUMBER}|(?:row|bound) {PLACE} has no side)",
     re.ASCII,
 )  # docs/verify/theorems.md says what each of these lines means
+PROVED_BY_BRANCHES = "proved"  # what `bridge prove` says of a proof that holds
 CHECKED = re.compile(rf"yes {NUMBER}", re.ASCII)
 NOT_CHECKED = re.compile(
     rf"gap {NUMBER} {NUMBER}"
@@ -49,6 +50,13 @@ NOT_CHECKED = re.compile(
     rf"|too wide at (?:objective|total|(?:row|cost) {PLACE})",
     re.ASCII,
 )  # of `bridge check`
+
+
+# how a line begins that says what is proved, or that nothing is; of `check` and `prove`, too
+BEGINS_AS_VERDICT = re.compile(
+    r"(?:optimal|feasible|within|bound|infeasible|unbounded|yes|proved|not proved)\b", re.ASCII
+)
+INDENTATION = "  "  # of a line that begins so and is no verdict
 
 
 class Claim(enum.Enum):
@@ -175,6 +183,28 @@ def _read_reply(reply: Reply) -> Optional[Statement]:
         return statement
     if reply.status == 1 and NOT_PROVED.fullmatch(line):
         return None
+    raise NoVerdict(reply)
+
+
+def set_apart(line: str) -> str:
+    """A line that is no verdict, so that it does not begin as one does: it is indented then.
+
+    Names, paths and logs may hold any words. The console asks it of all that it tells beside a
+    verdict, and `pipeline.outputs` of the lines above one in a .sol.
+    """
+    return INDENTATION + line if BEGINS_AS_VERDICT.match(line) else line
+
+
+def read_proof(reply: Reply) -> str:
+    """The line of `bridge prove` on a proof by branches: `proved`, or why it proves nothing.
+
+    Raises:
+        NoVerdict: The line does not belong to the status, or is none.
+    """
+    line = _only_line(reply)
+    is_proved = reply.status == 0 and line == PROVED_BY_BRANCHES
+    if is_proved or (reply.status == 1 and NOT_PROVED.fullmatch(line)):
+        return line
     raise NoVerdict(reply)
 
 

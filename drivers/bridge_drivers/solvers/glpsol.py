@@ -112,6 +112,7 @@ class Glpsol(Solver):
     progress_patterns = (
         r"^\+ *(?P<iterations>\d+): (?:mip =|>>>>>) +(?P<incumbent>\S+) +[<>]= +(?P<bound>\S+) .*\((?P<open>\d+);",
         r"^\+ *(?P<iterations>\d+): mip = +not found yet +[<>]= +(?P<bound>\S+) .*\((?P<open>\d+);",
+        r"^Solution found by heuristic: (?P<incumbent>\S+)",
         r"^[ *#] *(?P<iterations>\d+): obj = +(?P<objective>\S+)",
     )
 

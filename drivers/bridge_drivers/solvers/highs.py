@@ -72,6 +72,20 @@ class Highs(Solver):
     retry_words = "without presolve"
     infinite = "1e20"
     options = (SolverOption.MIP_GAP,)
+    progress_patterns = (
+        r"^ *[A-Z]? *(?P<nodes>\d+) +(?P<open>\d+) +\d+ +[\d.]+% +(?P<bound>\S+) "
+        r"+(?P<incumbent>\S+) +\S+ ",
+        r"^ +(?P<iterations>\d+) +(?P<objective>\S+) +(?:Pr|Du|Ph1):",
+    )
+
+    def progress_of_line(self, line: str, program: LinearProgram) -> dict[str, float]:
+        """As of `Solver`. The script minimises, and leaves out the constant of the objective."""
+        known = super().progress_of_line(line, program)
+        sign = -1.0 if program.maximise else 1.0
+        for name in ("incumbent", "bound", "objective"):
+            if name in known:
+                known[name] = sign * known[name] - float(program.objective_rhs)
+        return known
 
     def find(self, named: str = "") -> str | None:
         """The path of a Python that has SciPy; None where there is none.
@@ -102,7 +116,7 @@ class Highs(Solver):
             "seconds": run.settings.time_limit,
             "relax": run.settings.relax,
             "presolve": not run.is_retry,
-            "disp": run.settings.shows_log,
+            "disp": True,
         }
         path = run.write("highs.mps", self.mps_text(run.written))
         target = run.path("answer.json")

@@ -43,6 +43,9 @@ STATUSES = (
 )
 OPTIMAL = ToldStatus("", SolverStatus.OPTIMAL, OPTIMAL_SOLUTION)  # values, and no words before them
 INFINITE = 1e30
+TELLS_PROGRESS = "-v4"  # each better point, as it is found
+# in the last line that it writes so, before its answer
+END_OF_PROGRESS = " seconds in simplex solver, in total "
 OBJECTIVE = "Value of objective function:"
 VALUES = "Actual values of the variables"
 ROWS = "Actual values of the constraints"
@@ -85,7 +88,13 @@ class LpSolve(Solver):
     package = "lp-solve"
     retry_words = "without scaling"
     infinite = "1e30"
+    takes_start = True
     options = (SolverOption.MIP_GAP,)
+    progress_patterns = (
+        r"^(?:Feasible|Improved) solution +(?P<incumbent>\S+) after +(?P<iterations>\d+) iter, "
+        r"+(?P<nodes>\d+) nodes",
+        r"^Relaxed solution +(?P<bound>\S+) after",
+    )
 
     def arguments(self, settings: SolverSettings, *, is_retry: bool = False) -> list[str]:
         """As of `Solver`. Its time limit is a whole number of seconds, rounded up."""
@@ -107,9 +116,11 @@ class LpSolve(Solver):
         Raises as `Solver.solve`.
         """
         path = run.write("lp_solve.mps", run.written.text)
-        words = self.reading_arguments(run.program, path)
+        words = [*self.reading_arguments(run.program, path), TELLS_PROGRESS]
+        words += start_arguments(run)
         words += self.arguments(run.settings, is_retry=run.is_retry)
         finished = run.start([run.executable, *words])
+        finished = finished._replace(log=answer_in_log(finished.log))
         head, heading, _ = finished.log.partition(f"\n{VALUES}:\n")
         told = status_in_log(STATUSES, head) or (OPTIMAL if heading else None)
         if told is None:
@@ -127,6 +138,18 @@ class LpSolve(Solver):
         Without -mps_negobjconst it adds the side of the objective row, where others subtract it.
         """
         return ["-fmps", path, "-S4", "-mps_negobjconst"]
+
+
+def start_arguments(run: SolverRun) -> list[str]:
+    """The words by which lp_solve guesses its first basis from values, whose file is written.
+
+    It has no way to be given an incumbent. There are none for a second question.
+    """
+    if not run.start_values or run.is_retry:
+        return []
+    pairs = zip(run.program.names.columns, run.start_values)
+    lines = [f"{name}: {value!r};\n" for name, value in pairs if value is not None]
+    return ["-gbas", run.write("start.txt", "".join(lines).encode("ascii"))]
 
 
 def answer_of_head(run: SolverRun, told: ToldStatus, head: str, *, has_point: bool) -> SolverAnswer:
@@ -155,6 +178,12 @@ def answer_of_head(run: SolverRun, told: ToldStatus, head: str, *, has_point: bo
     if answer.status.has_point():
         answer.objective = found.objective
     return answer
+
+
+def answer_in_log(log: str) -> str:
+    """The log from behind what it tells of its progress; all of it where it tells nothing."""
+    _, found, rest = log.rpartition(END_OF_PROGRESS)
+    return rest.partition("\n")[2] if found else log
 
 
 def read_head(head: str) -> ReadHead:

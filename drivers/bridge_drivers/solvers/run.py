@@ -2,9 +2,9 @@
 
 from __future__ import annotations
 
-import math
 import os
 import time
+from dataclasses import replace
 from typing import NamedTuple, Sequence
 
 from ..system.deadline import Deadline
@@ -15,8 +15,18 @@ from .settings import SolverSettings
 
 LOG_NAME = "solver.log"
 ANSWER_PREFIX = "answer."  # what the names of files begin with that solvers write
-KILLED_AFTER = 1.1  # times the time limit, and
-GRACE_SECONDS = 5.0  # so many seconds more: then it is killed
+
+
+class SolverTime(NamedTuple):
+    """The time of one process of a solver, which `pipeline.time_shares` makes.
+
+    Attributes:
+        share: Seconds that the solver is told; 0 for no limit.
+        killed: When it is killed, if it has not ended by itself.
+    """
+
+    share: float = 0.0
+    killed: Deadline = Deadline()
 
 
 class Finished(NamedTuple):
@@ -25,7 +35,7 @@ class Finished(NamedTuple):
     Attributes:
         status: Its exit status; minus the number of the signal that ended it.
         log: What it wrote on standard output and standard error, as it came.
-        is_killed: It went on past its time limit, and was killed.
+        is_killed: It went on for too long, and was killed.
     """
 
     status: int
@@ -43,7 +53,7 @@ class RunObserver:
         """Something is worked at from now on.
 
         Args:
-            stage: The name of the executable; "" when it ends.
+            stage: The name of the solver; "" when it ends.
             limit: Its limit of time in seconds; 0 for none.
         """
 
@@ -64,6 +74,11 @@ class SolverRun:
         folder: The absolute path of a folder for its files.
         executable: The absolute path of the solver.
         observer: Is told what goes on.
+        stage: What the observer is told is at work; the name of the executable where nothing else
+            is set.
+        killed: When the process is killed that starts next.
+        start_values: To begin with, one for each column of the program, None where nothing is said;
+            empty: there are none. Solvers that take a start are given it.
         is_retry: It is asked once more, in another way.
         is_interrupted: It was told to end before it had ended by itself.
         log: Of the last process.
@@ -89,6 +104,9 @@ class SolverRun:
         self.folder = folder
         self.executable = executable
         self.observer = observer or RunObserver()
+        self.stage = os.path.basename(executable)
+        self.killed = Deadline()
+        self.start_values: Sequence[float | None] = ()
         self.is_retry = False
         self.is_interrupted = False
         self.log = ""
@@ -109,6 +127,11 @@ class SolverRun:
         """Writes a file of this name into the folder, and returns its absolute path."""
         return write_new(self.path(name), data)
 
+    def take_time(self, time_of_process: SolverTime) -> None:
+        """Sets what the process may take that starts next, and what it is told of that."""
+        self.settings = replace(self.settings, time_limit=time_of_process.share)
+        self.killed = time_of_process.killed
+
     def remove_answers(self) -> None:
         """Removes files of an older answer, which a kept folder may hold; called before a
         question.
@@ -120,8 +143,8 @@ class SolverRun:
     def start(self, argv: Sequence[str]) -> Finished:
         """Runs the solver to its end, in the folder, and tells the observer of it.
 
-        Its log is kept beside its files. A tenth and five seconds after the time limit it is
-        killed. Sets `log`, `exit_status` and `is_interrupted`.
+        Its log is kept beside its files. It is killed where it goes on for too long (`killed`).
+        Sets `log`, `exit_status` and `is_interrupted`.
 
         Args:
             argv: The executable and its words; paths in the folder become plain names.
@@ -145,18 +168,17 @@ class SolverRun:
 
         The first interrupt of this process is sent to the solver, which may end with an answer.
         """
-        limit = self.settings.time_limit
-        deadline = Deadline(limit * KILLED_AFTER + GRACE_SECONDS if limit else math.inf)
-        self.observer.stage_begins(os.path.basename(self.executable), limit)
+        self.observer.stage_begins(self.stage, self.settings.time_limit)
         try:
             ended = run(
                 argv,
-                deadline,
+                self.killed,
                 on_line=self.observer.log_line,
                 folder=self.folder,
                 streams=Streams.MERGED,
                 log=self.path(LOG_NAME),
                 on_interrupt=self._note_interrupt,
+                by_lines=True,
             )
         finally:  # also where a signal ends the driver
             self.observer.stage_begins("", 0.0)

@@ -26,7 +26,6 @@ class SolverSettings:
         mip_gap: The relative gap at which its search stops; 0 for none.
         threads: Of its search; 0 leaves the number to the solver.
         exact_check: It checks its final basis in exact arithmetic.
-        shows_log: Its log is wanted, also where it has a quiet mode.
         arguments: Further words for it, which stand behind all others.
     """
 
@@ -35,5 +34,4 @@ class SolverSettings:
     mip_gap: float = 0.0
     threads: int = 0
     exact_check: bool = False
-    shows_log: bool = False
     arguments: Sequence[str] = ()

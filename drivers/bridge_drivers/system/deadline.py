@@ -4,6 +4,7 @@ from __future__ import annotations
 
 import math
 import time
+from typing import Optional
 
 from .errors import DeadlineExceeded
 
@@ -30,9 +31,17 @@ class Deadline:
         self._start = self._clock()
 
     @classmethod
-    def of_limit(cls, limit: float) -> Deadline:
-        """The deadline of an option in seconds of the wall, in which 0 stands for no limit."""
-        return cls(limit or math.inf)
+    def of_limit(cls, limit: float, began: Optional[float] = None) -> Deadline:
+        """The deadline of an option in seconds of the wall, in which 0 stands for no limit.
+
+        Args:
+            limit: These seconds.
+            began: When they begin to count, by the monotonic clock; None: now.
+        """
+        deadline = cls(limit or math.inf)
+        if began is not None:
+            deadline._start = began
+        return deadline
 
     def spent(self) -> float:
         """Seconds since its start, or since it was restarted, by its clock."""

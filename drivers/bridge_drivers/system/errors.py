@@ -14,6 +14,7 @@ import errno
 from typing import Any
 
 from .codes import ExitStatus
+from .text import one_line, shortened
 
 
 class BridgeError(Exception):
@@ -299,12 +300,25 @@ class NotReturned(BridgeError):
         return f"return: {self.reason}"
 
 
+# what a fault of this package is, beside errors of the hierarchy
+FAULTS = (ArithmeticError, AssertionError, LookupError, TypeError, ValueError)
+
+
 class DriverFault(BridgeError):
-    """A fault of the drivers themselves: an exception of no other class, told by its `repr`."""
+    """A fault of the drivers themselves: an exception of no other class, told by its `repr`.
+
+    Attributes:
+        remedy: What shows where it was.
+    """
+
+    def __init__(self, reason: str, remedy: str = "outlev=2 shows where") -> None:
+        """Of the exception's `repr`, and what shows where it was."""
+        super().__init__(shortened(one_line(reason)))
+        self.remedy = remedy
 
     def describe(self) -> str:
-        """The reason, and the option that shows where it was."""
-        return f"a fault of the driver: {self.reason} (outlev=2 shows where)"
+        """The reason, and what shows where it was."""
+        return f"a fault of the driver: {self.reason} ({self.remedy})"
 
 
 class RunInterrupted(BridgeError):

@@ -26,13 +26,30 @@ from typing import BinaryIO, Callable, Iterator, Sequence, TextIO
 
 from .errors import FileAction, FileFault, FileStays
 from .signals import SIGNALS
+from .text import one_line
 
 ANYONE_MAY_WRITE = 0o222  # the bits of a mode that let someone write
 MODE_OF_NEW_FILES = 0o666  # less the mask of the process
-LOOKED_AT = 4096  # bytes of a file's start that tell its kind
+LOOKED_AT = 1 << 16  # bytes of a file's start that tell its kind
 OPEN_FILE = re.compile(r"/dev/std(?P<name>out|err)|/(?:dev|proc/self)/fd/(?P<number>\d+)")
 
-KindOfStart = Callable[[bytes], object]  # of a file's first bytes; None where they tell no kind
+# of a file's path ("" where there is none) and first bytes; None where it is no model
+KindOfModel = Callable[[str, bytes], object]
+
+
+def require_path(path: str, action: FileAction) -> None:
+    """Raises FileFault where a text is no path of this system: a byte 0, or a half of a letter.
+
+    Args:
+        path: As the user gave it.
+        action: What was to be done with it.
+    """
+    try:
+        is_path = b"\0" not in os.fsencode(path)
+    except UnicodeEncodeError:
+        is_path = False
+    if not is_path:
+        raise FileFault(one_line(path), "it is no path of this system", action)
 
 
 class WhyItStays(enum.Enum):
@@ -55,12 +72,12 @@ class OutputFiles:
 
     Attributes:
         reads: The paths of what the run reads.
-        model_kind: The kind of a model by its first bytes; None where they are of no model.
+        model_kind: The kind of a model by its path and first bytes; None where it is no model.
         overwrite: What stands at a place may be replaced.
     """
 
     def __init__(
-        self, reads: Sequence[str], model_kind: KindOfStart, *, overwrite: bool = False
+        self, reads: Sequence[str], model_kind: KindOfModel, *, overwrite: bool = False
     ) -> None:
         """Nothing is looked at yet; the arguments are the attributes of the class."""
         self.reads = reads
@@ -72,7 +89,9 @@ class OutputFiles:
 
         Raises:
             FileStays: What stands there stays.
+            FileFault: It is no path.
         """
+        require_path(target, FileAction.WRITE)
         why = self._why_it_stays(target, data)
         if why is not None:
             raise FileStays(target, why.value)
@@ -99,9 +118,10 @@ class OutputFiles:
             FileStays: It is what this run reads, or a model.
             FileFault: It cannot be removed.
         """
+        require_path(target, FileAction.WRITE)
         if self._is_read(target):
             raise FileStays(target, WhyItStays.IS_READ.value)
-        if os.path.isfile(target) and self.model_kind(start_of(target)) is not None:
+        if os.path.isfile(target) and self._kind_at(target) is not None:
             raise FileStays(target, WhyItStays.IS_MODEL.value)
         with _as_file_fault(target), contextlib.suppress(FileNotFoundError):
             os.unlink(target)
@@ -111,6 +131,11 @@ class OutputFiles:
         return os.path.exists(target) and any(
             os.path.exists(path) and os.path.samefile(path, target) for path in self.reads
         )
+
+    def _kind_at(self, target: str) -> object:
+        """The kind of the model that stands at a path, or where a link there leads; else None."""
+        start = start_of(target)
+        return self.model_kind(target, start) or self.model_kind(os.path.realpath(target), start)
 
     def _why_it_stays(self, target: str, data: bytes) -> WhyItStays | None:
         """Why these bytes may not stand at a path; None where they may."""
@@ -122,8 +147,8 @@ class OutputFiles:
             return None
         if not self.overwrite:
             return WhyItStays.STANDS
-        kind = self.model_kind(start_of(target))
-        is_other = kind is not None and kind != self.model_kind(data[:LOOKED_AT])
+        kind = self._kind_at(target)
+        is_other = kind is not None and kind != self.model_kind("", data[:LOOKED_AT])
         return WhyItStays.IS_MODEL if is_other else None
 
 
@@ -174,8 +199,12 @@ def private_folder(prefix: str) -> str:
 
     Args:
         prefix: What its name begins with.
+
+    Raises:
+        FileFault: There is no room for it, where the system or TMPDIR say.
     """
-    return tempfile.mkdtemp(prefix=prefix)
+    with _as_file_fault("a folder for files in between (TMPDIR)"):
+        return tempfile.mkdtemp(prefix=prefix)
 
 
 def new_folder_in(folder: str, name: str) -> str:
@@ -188,6 +217,7 @@ def new_folder_in(folder: str, name: str) -> str:
     Raises:
         FileFault: It cannot be made, or looked into.
     """
+    require_path(folder, FileAction.WRITE)
     with _as_file_fault(folder):
         os.makedirs(folder, exist_ok=True)
         if not os.listdir(folder):

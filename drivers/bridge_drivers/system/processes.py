@@ -10,20 +10,39 @@ from __future__ import annotations
 import collections
 import contextlib
 import enum
+import errno
 import math
 import os
 import selectors
 import signal
 import subprocess
-from typing import IO, BinaryIO, Callable, Deque, Iterator, List, NamedTuple, Optional, Sequence
+from typing import (
+    IO,
+    BinaryIO,
+    Callable,
+    Deque,
+    Iterator,
+    List,
+    Mapping,
+    NamedTuple,
+    Optional,
+    Sequence,
+)
 
 from .files import new_file
 from .signals import SIGNALS
 from .deadline import Deadline
 
 PIECE = 1 << 16  # bytes that are read at once
+LONGEST_WAIT = 3600.0  # seconds of one look at a process, of which there may be more
 POLL = 0.02  # seconds between two looks at a process, where the system does not tell its end
 DRAINED = 1 << 20  # bytes that are still read of a stream when its process has ended
+# where coreutils has the library of `stdbuf`
+BUFFER_LIBRARIES = (
+    "/usr/libexec/coreutils/libstdbuf.so",
+    "/usr/lib/coreutils/libstdbuf.so",
+    "/usr/local/libexec/coreutils/libstdbuf.so",
+)
 # what stands beside each process, and kills its group where this process ends before it says so
 GUARD = 'read end || kill -s KILL -- "-$0"'
 
@@ -37,11 +56,13 @@ class OutputLimits(NamedTuple):
         line_bytes: Of one line: a longer one is told in pieces.
         memory_bytes: Of one stream. The first and the last half of them are held of a longer one.
         log_bytes: Of the file that gets a log.
+        ends_beyond: A process that writes more than is held in memory is killed.
     """
 
     line_bytes: int = 1 << 16
     memory_bytes: int = 1 << 26
     log_bytes: int = 1 << 28
+    ends_beyond: bool = False
 
 
 class Streams(enum.Enum):
@@ -80,6 +101,7 @@ def run(
     streams: Streams = Streams.APART,
     log: Optional[str] = None,
     on_interrupt: Optional[Callable[[], None]] = None,
+    by_lines: bool = False,
 ) -> Finished:
     """Runs a program to its end, or to that of its time. It reads nothing from standard input.
 
@@ -95,23 +117,25 @@ def run(
         log: The path of a file that gets the output as it comes.
         on_interrupt: Where it is given, the first interrupt of this process is sent to the program,
             which may end in its own way, and told here.
+        by_lines: It writes each line at once, where it would hold some thousand bytes back.
 
     Raises:
-        OSError: It cannot be started, or the log not be written.
+        OSError: It cannot be started (a word with a byte 0 among others), or the log not be written.
         Interrupted: A signal came, and the program was killed.
     """
     memory = _Memory(limits.memory_bytes)
     errors = _Memory(limits.memory_bytes)
     lines = _Lines(on_line, limits.line_bytes)
     with _open_log(log, limits) as to_log, SIGNALS.deferred():
-        child = _started(argv, streams, folder)
+        child = _started(argv, streams, folder, by_lines=by_lines)
         with _ended_at_last(child):
             readers = [
                 *_readers_of(child.stdout, [memory.add, lines.add, *to_log]),
                 *_readers_of(child.stderr, [errors.add]),
             ]
             with _interrupts_to(child, on_interrupt), SIGNALS.delivered():
-                is_late = _follow(child, readers, deadline)
+                held = [memory, errors] if limits.ends_beyond else []
+                is_late = _follow(child, readers, deadline, held)
                 lines.end()
     dropped = memory.dropped + errors.dropped
     return Finished(child.returncode, memory.data(), errors.data(), is_late, dropped)
@@ -151,25 +175,47 @@ def _readers_of(stream: Optional[IO[bytes]], sinks: Sequence[Sink]) -> List[_Rea
 
 
 def _started(
-    argv: Sequence[str], streams: Streams, folder: Optional[str]
+    argv: Sequence[str], streams: Streams, folder: Optional[str], *, by_lines: bool = False
 ) -> subprocess.Popen[bytes]:
     """Starts a program in a session, and so a group, of its own, with nothing on standard input.
 
     Args:
         folder: Where it runs; None: where this process does.
+        by_lines: It writes each line at once.
 
     Raises:
         OSError: It cannot be started.
     """
     output = None if streams is Streams.PASSED_ON else subprocess.PIPE
-    return subprocess.Popen(
-        argv,
-        stdin=subprocess.DEVNULL,
-        stdout=output,
-        stderr=subprocess.STDOUT if streams is Streams.MERGED else output,
-        cwd=folder,
-        start_new_session=True,
-    )
+    try:
+        return subprocess.Popen(
+            argv,
+            stdin=subprocess.DEVNULL,
+            stdout=output,
+            stderr=subprocess.STDOUT if streams is Streams.MERGED else output,
+            cwd=folder,
+            env={**os.environ, **line_buffering()} if by_lines else None,
+            start_new_session=True,
+        )
+    except ValueError as fault:  # a byte 0, or what no word of this system is
+        raise OSError(errno.EINVAL, str(fault)) from None
+
+
+def line_buffering() -> Mapping[str, str]:
+    """The variables by which a program writes each line at once, though its output is a pipe.
+
+    A program holds its output back where that is no terminal. These are what `stdbuf -oL` sets: a
+    library of GNU's coreutils sets the buffer before the program begins. Without that command the
+    program would have to be found twice, and a program that cannot be started is told as such.
+
+    Returns:
+        Nothing where the library is not there.
+    """
+    library = next(filter(os.path.exists, BUFFER_LIBRARIES), None)
+    if library is None:
+        return {}
+    others = os.environ.get("LD_PRELOAD", "")
+    return {"_STDBUF_O": "L", "LD_PRELOAD": f"{others}:{library}".lstrip(":")}
 
 
 @contextlib.contextmanager
@@ -180,9 +226,11 @@ def _ended_at_last(child: subprocess.Popen[bytes]) -> Iterator[None]:
     and its streams are closed.
     """
     guard = _guard_of(child)
+    SIGNALS.groups.add(child.pid)
     try:
         yield
     finally:
+        SIGNALS.groups.discard(child.pid)
         signal_group(child, signal.SIGKILL)  # before it is waited for: its number is still its own
         child.wait()
         if guard is not None:
@@ -234,11 +282,19 @@ def _interrupts_to(
         yield
 
 
-def _follow(child: subprocess.Popen[bytes], readers: Sequence[_Reader], deadline: Deadline) -> bool:
+def _follow(
+    child: subprocess.Popen[bytes],
+    readers: Sequence[_Reader],
+    deadline: Deadline,
+    held: Sequence[_Memory],
+) -> bool:
     """Reads what a process writes until it has ended; True if it was killed at the deadline.
 
     Something that it started may hold its streams open: what these have by then is read, and no
     more waited for.
+
+    Args:
+        held: Where one of these has dropped something, the process is killed.
     """
     is_late = False
     with selectors.DefaultSelector() as selector, _notice_of_end(child) as notice:
@@ -249,6 +305,8 @@ def _follow(child: subprocess.Popen[bytes], readers: Sequence[_Reader], deadline
         while not _has_ended(child):
             if not is_late and deadline.is_over():
                 is_late = True
+                signal_group(child, signal.SIGKILL)
+            elif any(memory.dropped for memory in held):
                 signal_group(child, signal.SIGKILL)
             pause = math.inf if is_late else max(deadline.left(), 0.0)
             _read_what_is_there(selector, pause if notice is not None else min(pause, POLL))
@@ -263,9 +321,9 @@ def _read_what_is_there(selector: selectors.BaseSelector, pause: float) -> None:
     One that has ended is not looked at any more.
 
     Args:
-        pause: Seconds to wait at most; infinite for no limit.
+        pause: Seconds to wait at most, of which LONGEST_WAIT are waited at once.
     """
-    for key, _ in selector.select(None if pause == math.inf else pause):
+    for key, _ in selector.select(min(pause, LONGEST_WAIT)):
         if key.data is not None and key.data.read() == 0:
             selector.unregister(key.fileobj)
 

@@ -11,6 +11,7 @@ from typing import Mapping
 
 VALUES = ("incumbent", "bound", "objective")  # of what is known, those that are told as values
 COUNTS = ("nodes", "open", "iterations", "cuts")  # and those that are told as counts
+LONGEST_FORECAST = 100 * 3600.0  # seconds: more is no forecast
 
 
 class Progress:
@@ -46,6 +47,10 @@ class Progress:
         """Sets what is known of the stage from now on, in words."""
         self.detail = detail
 
+    def tell_step(self, step: str, known: Mapping[str, float]) -> None:
+        """Sets what is worked at within the stage, in words, and what is known of it by then."""
+        self.tell(", ".join(filter(None, [progress_words(known), step])))
+
     def tell_numbers(self, known: Mapping[str, float]) -> None:
         """Sets what is known of the stage from now on, by the names that `progress_words` knows."""
         self.tell(progress_words(known))
@@ -53,7 +58,7 @@ class Progress:
     def words(self) -> str:
         """The stage, its seconds by now and what is known of it: `cbc, 3 of 60 s, incumbent 17`."""
         seconds = f"{time.monotonic() - self.began:.0f}"
-        limit = f" of {self.limit:g} s" if self.limit else " s"
+        limit = f" of {self.limit:.3g} s" if self.limit else " s"
         detail = f", {self.detail}" if self.detail else ""
         return f"{self.stage}, {seconds}{limit}{detail}"
 
@@ -62,18 +67,28 @@ def progress_words(known: Mapping[str, float]) -> str:
     """The words of what is known of a search: values, the gap where it is known, and counts.
 
     Args:
-        known: By the names of `VALUES` and `COUNTS`; values are in the file's own sense. Others,
-            and what is not finite, are left out, and so is a bound beside `cuts`: while cuts are
-            still made it is no claim yet.
+        known: By the names of `VALUES` and `COUNTS`, `closed` (a share) and `left` (seconds);
+            values are in the file's own sense. Others, and what is not finite, are left out.
     """
     told = {name: value for name, value in known.items() if math.isfinite(value)}
-    if "cuts" in told:
-        told.pop("bound", None)
-    parts = [f"{name} {value:.10g}" for name, value in told.items() if name in VALUES]
+    parts = [f"{name} {told[name]:.8g}" for name in VALUES if name in told]
     if "incumbent" in told and "bound" in told:
         parts.append(f"gap {gap_percentage(told['incumbent'], told['bound']):.3g} %")
-    parts += [f"{value:.0f} {name}" for name, value in told.items() if name in COUNTS]
+    if told.get("closed"):
+        parts.append(f"{100 * told['closed']:.3g} % closed")
+    if told.get("left", math.inf) <= LONGEST_FORECAST:
+        parts.append(f"{duration_words(told['left'])} left")
+    parts += [f"{told[name]:.0f} {name}" for name in COUNTS if name in told]
     return ", ".join(parts)
+
+
+def duration_words(left: float) -> str:
+    """So many seconds in words of the unit that fits: `40 s`, `12 min`, `3 h`."""
+    if left < 100:
+        return f"{left:.0f} s"
+    if left < 100 * 60:
+        return f"{left / 60:.0f} min"
+    return f"{left / 3600:.0f} h"
 
 
 def gap_percentage(incumbent: float, bound: float) -> float:

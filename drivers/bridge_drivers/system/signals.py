@@ -7,9 +7,10 @@ package leave the signals of their caller alone, but for SIGINT while they work.
 from __future__ import annotations
 
 import contextlib
+import os
 import signal
 import threading
-from typing import Callable, Iterator, Sequence
+from typing import Callable, Iterator, Sequence, Set
 
 from .errors import Interrupted
 
@@ -31,6 +32,7 @@ class SignalGate:
         is_ending: A signal has ended the run.
         pending: The first signal that waits; 0 where none does.
         receiver: Whose the next interrupt is instead; None where it ends the run.
+        groups: The groups of processes that are at work for this one, and stop with it.
     """
 
     def __init__(self) -> None:
@@ -39,6 +41,7 @@ class SignalGate:
         self.is_ending = False
         self.pending = 0
         self.receiver: Callable[[], None] | None = None
+        self.groups: Set[int] = set()
 
     def install(self) -> None:
         """Makes this gate the handler of all handled signals, at the start of a command.
@@ -48,6 +51,9 @@ class SignalGate:
         for number in HANDLED_SIGNALS:
             if signal.getsignal(number) is not signal.SIG_IGN:
                 signal.signal(number, self.receive)
+        stop = getattr(signal, "SIGTSTP", None)
+        if stop is not None and signal.getsignal(stop) is signal.SIG_DFL:
+            signal.signal(stop, self.stop)
 
     def receive(self, number: int, frame: object = None) -> None:
         """What a signal does: the handler of each one, also called where one was held back.
@@ -71,6 +77,23 @@ class SignalGate:
         elif not self.is_ending:
             self.is_ending = True
             raise Interrupted(number)
+
+    def stop(self, number: int, frame: object = None) -> None:
+        """Stops this process and all that is at work for it, as Ctrl-Z asks; all go on together.
+
+        Args:
+            number: Of the signal; not looked at.
+            frame: What Python gives a handler; not looked at.
+        """
+        self._signal_groups(signal.SIGSTOP)
+        os.kill(os.getpid(), signal.SIGSTOP)  # it returns when this process goes on
+        self._signal_groups(signal.SIGCONT)
+
+    def _signal_groups(self, number: int) -> None:
+        """Sends a signal to each of `groups` that is still there."""
+        for group in self.groups:
+            with contextlib.suppress(ProcessLookupError, PermissionError):
+                os.killpg(group, number)
 
     def deferred(self) -> contextlib.AbstractContextManager[None]:
         """A block that no signal breaks off: the first one that comes waits for its end.

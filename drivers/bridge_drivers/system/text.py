@@ -8,8 +8,17 @@ import re
 import unicodedata
 from typing import Iterable, Mapping, Sequence
 
-# of C0 all but the tab and the line's end, DEL, C1, and single bytes that stand for C1
-CONTROLS = re.compile("[\x00-\x08\x0b-\x1f\x7f-\x9f\udc80-\udc9f]")
+CONTROLS = re.compile(
+    "[\x00-\x08\x0b-\x1f\x7f-\x9f"  # of C0 all but the tab and the line's end, DEL, C1
+    "\udc80-\udc9f"  # single bytes that stand for C1
+    "\u2028\u2029"  # ends of lines and of paragraphs
+    "\u061c\u200e\u200f\u202a-\u202e\u2066-\u206f"  # the direction in which text runs
+    "\u00ad\u115f\u1160\u180e\u200b-\u200d\u2060-\u2065\u3164\ufeff\uffa0"  # nothing that is seen
+    "\ufff9-\ufffb\U000e0000-\U000e007f"  # notes between lines, and tags
+    "\ufdd0-\ufdef"
+    + "".join(chr((plane << 16) + end) for plane in range(17) for end in (0xFFFE, 0xFFFF))
+    + "]"  # and what no text has
+)
 LINE_CONTROLS = re.compile("[\t\n]")
 MOST_NAMES = 1000  # that a word is compared with: a comparison takes some microseconds
 LONGEST_WORD = 100  # characters; a comparison takes time by the product of two lengths
@@ -18,9 +27,9 @@ LEAST_LIKENESS = 0.7  # of 1, as difflib counts it: less is another word
 
 
 def printable(text: str) -> str:
-    """The text with its controls as `\\x1b`, which a terminal shows and does not obey.
+    """The text with its controls as `\\x1b` or `\\u202e`: a terminal shows and does not obey them.
 
-    Ends of lines and tabs stay.
+    So is what cannot be seen, which would make two names look the same. Ends of lines and tabs stay.
     """
     return CONTROLS.sub(_escaped, text)
 
@@ -51,6 +60,11 @@ def counted(count: int, thing: str) -> str:
     if count == 1:
         return f"{count} {thing}"
     return f"{count} {thing}{'es' if thing.endswith('s') else 's'}"
+
+
+def shortened(word: str) -> str:
+    """A word as a message shows it: of a long one the first LONGEST_WORD characters, and `..`."""
+    return word if len(word) <= LONGEST_WORD else word[:LONGEST_WORD] + ".."
 
 
 def nearest(word: str, known: Iterable[str]) -> str:
@@ -101,5 +115,11 @@ def cut_to_width(text: str, columns: int) -> str:
 
 
 def _escaped(found: re.Match[str]) -> str:
-    r"""A control as `\x1b`; of a byte that is no UTF-8 (a surrogate) the byte's own number."""
-    return f"\\x{ord(found.group()) & 0xff:02x}"
+    r"""A control as `\x1b`, `\u202e` or `\U000e0041`, as Python writes it.
+
+    Of a byte that is no UTF-8 (a surrogate) it is the byte's own number.
+    """
+    number = ord(found.group())
+    if number <= 0xFF or 0xDC80 <= number <= 0xDCFF:
+        return f"\\x{number & 0xff:02x}"
+    return f"\\u{number:04x}" if number <= 0xFFFF else f"\\U{number:08x}"

@@ -482,7 +482,7 @@ FAMILIES: Dict[str, Callable[[int, random.Random], bytes]] = {
     "split": split,
     "gap": lambda size, rnd: assigned(5, 4 * size, rnd),
     "color": lambda size, rnd: colouring(size, 6, rnd),
-    "lotsize": lambda size, rnd: shared_lots(5, size, rnd),
+    "lotsize": lambda size, rnd: shared_lots(3, size, rnd),
     "tspmtz": tour,
     "cfl": lambda size, rnd: location(size // 3, size, rnd, has_room=True),
 }

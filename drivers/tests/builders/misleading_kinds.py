@@ -2,6 +2,7 @@
 
 from __future__ import annotations
 
+import itertools
 import random
 from fractions import Fraction as F
 from typing import (
@@ -346,6 +347,70 @@ def beyond_doubles(rng: random.Random) -> Parts:
     return Parts([column], [(None, side, {0: a})], "max", {0: 1}, F(side // a))
 
 
+def big_sequences(rng: random.Random) -> Parts:
+    """Jobs on one machine: the order of each pair is a binary column with a large M."""
+    n, large = rng.randint(2, 3), 10 ** rng.randint(4, 9)
+    lasts = [rng.randint(1, 9) for _ in range(n)]
+    weights = [rng.randint(1, 9) for _ in range(n)]
+    pairs = [(i, k) for i in range(n) for k in range(i)]
+    columns: List[Column] = [("C", 0, sum(lasts)) for _ in range(n)]
+    columns += [("I", 0, 1) for _ in pairs]
+    rows: List[Row] = []
+    for order, (i, k) in enumerate(pairs, n):
+        rows.append((lasts[k], None, {i: 1, k: -1, order: large}))  # at 0 the job k is first
+        rows.append((lasts[i] - large, None, {k: 1, i: -1, order: -large}))
+    best = min(
+        sum(weights[j] * sum(lasts[i] for i in jobs[:place]) for place, j in enumerate(jobs))
+        for jobs in itertools.permutations(range(n))
+    )
+    return Parts(columns, rows, "min", dict(enumerate(weights)), F(best))
+
+
+def huge_numbers(rng: random.Random) -> Parts:
+    """Numbers about 1e20, which some solvers take for none, as coefficients, sides and bounds."""
+    size = rng.choice([5 * 10**19, 10**20, 10**20 + 1, 3 * 10**21])
+    most = rng.randint(2, 9)
+    if rng.random() < 0.5:
+        columns = [("I", 0, 12), ("I", 0, 12)]
+        row = {0: size, 1: rng.randint(1, 9)}
+        side = most * size + rng.randint(0, 30)
+        return Parts(columns, [(None, side, row)], "max", {0: rng.randint(2, 9), 1: 1})
+    free: List[Column] = [("C", 0, size), ("C", 0, 9)]
+    rows: List[Row] = [(None, size + most, {0: 1, 1: rng.randint(1, 3)})]
+    return Parts(free, rows, "max", {0: 1, 1: rng.randint(-1, 1)})
+
+
+def remainders(rng: random.Random) -> Parts:
+    """The least whole number with given remainders, or none in its box."""
+    sizes = rng.choice([(7, 9, 10, 11), (97, 101, 103), (10007, 10009), (1000003, 999983)])
+    period = 1
+    for modulus in sizes:
+        period *= modulus
+    x = rng.randrange(period // 2, period)
+    is_there = rng.random() < 0.6
+    most = x + rng.randint(0, period) if is_there else x - 1
+    columns = [("I", 0, most)] + [("I", 0, most // modulus + 1) for modulus in sizes]
+    rows = [(x % m, x % m, {0: 1, k: -m}) for k, m in enumerate(sizes, 1)]
+    return Parts(columns, rows, "min", {0: 1}, F(x) if is_there else None)
+
+
+def chains(rng: random.Random) -> Parts:
+    """x' = a x - b again and again, so that a rounding grows from step to step."""
+    n, up = rng.randint(8, 40), decimal(F(rng.randint(12, 45), 10))
+    factor, at = F(up), F(rng.randint(1, 9), 10)
+    step = decimal((factor - 1) * at)  # `at` stays where it is
+    width = F(1, 10 ** rng.randint(1, 3))
+    columns: List[Column] = [("C", decimal(at - width), decimal(at + width))]
+    columns += [("C", None, None) for _ in range(n - 2)]
+    low, high = at - rng.choice([F(1), F(0)]), at + rng.randint(0, 2)
+    columns.append(("C", decimal(low), decimal(high)))
+    rows = [(f"-{step}", f"-{step}", {k + 1: 1, k: f"-{up}"}) for k in range(n - 1)]
+    reach = width * factor ** (n - 1)  # of the last column from `at`
+    least, most = max(low, at - reach), min(high, at + reach)
+    way = sense(rng)
+    return Parts(columns, rows, way, {n - 1: 1}, least if way == "min" else most)
+
+
 KINDS: Sequence[Callable[[random.Random], Parts]] = (
     equal_decimals,
     near_sides,
@@ -366,6 +431,10 @@ KINDS: Sequence[Callable[[random.Random], Parts]] = (
     whole_singular,
     whole_rays,
     two_rows,
+    big_sequences,
+    huge_numbers,
+    remainders,
+    chains,
 )
 
 

@@ -54,9 +54,12 @@ def test_solution_in_a_file(workspace: Workspace, name: str, content: str) -> No
 
 
 SHOWN = [
-    Call("bridge-cbc m -e wantsol=7", ends_with="optimal 19\nx0 2\nx1 4\nduals\nc0 1\nc1 0\n"),
-    Call("bridge-cbc m -e", ends_with="optimal 19\nx0 2\nx1 4\n"),
-    Call("bridge-cbc m -e wantsol=2", ends_with="optimal 19\nx0 2\nx1 4\n"),
+    Call(
+        "bridge-cbc m -e wantsol=7",
+        ends_with="optimal 19\nvalues\n  x0 2\n  x1 4\nduals\n  c0 1\n  c1 0\n",
+    ),
+    Call("bridge-cbc m -e", ends_with="optimal 19\nvalues\n  x0 2\n  x1 4\n"),
+    Call("bridge-cbc m -e wantsol=2", ends_with="optimal 19\nvalues\n  x0 2\n  x1 4\n"),
     Call("bridge-cbc m -e wantsol=0", ends_with="optimal 19\n"),
     Call("bridge-cbc m -e -s", ends_with="optimal 19\n"),
     Call("bridge-cbc m -e -AMPL", lacks=["x0 2"]),

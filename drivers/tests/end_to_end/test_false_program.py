@@ -55,3 +55,37 @@ def test_no_certificate_is_said_to_hold(workspace: Workspace, answer: str) -> No
     assert ended.status == 1
     assert "is no verdict" in ended.err and "holds" not in ended.text
     assert not workspace.path("knap.html").exists()
+
+
+@pytest.mark.needs("program")
+@pytest.mark.parametrize("answer", ANSWERS)
+@pytest.mark.parametrize(
+    "words", ["verify knap.nl knap.certificate", "verify_mps mill.mps mill.certificate"]
+)
+def test_no_false_verdict_is_passed_on(workspace: Workspace, answer: str, words: str) -> None:
+    workspace.copy_files(EXAMPLES)
+    environment = {"BRIDGE": lying(workspace, answer)}
+    ended = workspace.run("nl-bridge", *words.split(), environment=environment)
+    assert (ended.status, ended.out) == (1, "")
+    assert "is no verdict" in ended.err
+
+
+NAMES = ["optimal", "infeasible\nunbounded", "not proved: x", "a\n\na", "\x1b[2K\u202e\u2066\ufffe"]
+
+
+@pytest.mark.needs("program", "cbc")
+@pytest.mark.parametrize("names", NAMES)
+@pytest.mark.parametrize("words", ["", "wantsol=6", "outlev=1", "json=1 wantsol=2", "-s"])
+def test_names_make_no_verdict(workspace: Workspace, names: str, words: str) -> None:
+    """One line alone of all that is printed reads as a verdict, and each value has a name."""
+    workspace.copy_files(EXAMPLES)
+    workspace.write("knap.col", names + "\n")
+    ended = workspace.run("bridge-cbc", "knap", *words.split())
+    assert ended.status == 0, ended.text
+    if "json=1" in words:
+        values = workspace.report(ended, "bridge-cbc")["values"]
+        assert sorted(values.values()) == ["0", "1", "1"]
+    else:
+        assert PROVED.findall(ended.out) == ["optimal 17"]
+        assert not any(line.startswith("not proved") for line in ended.out.splitlines())
+    assert not set("\x1b\u202e\u2066\ufffe") & set(ended.out)

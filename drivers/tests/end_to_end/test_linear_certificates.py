@@ -16,7 +16,12 @@ from bridge_drivers.exact.clp import LpStatus
 from bridge_drivers.exact.dual_bound import is_optimal_in_doubles
 from bridge_drivers.exact.evidence import AnswerByPlace, AnswerClaim, Evidence
 from bridge_drivers.exact.relaxation import relaxation
-from bridge_drivers.exact.short_points import DecimalPoints
+from bridge_drivers.exact.short_points import (
+    NEAR_OF_DOUBLES,
+    ShortPoint,
+    fixed_points,
+    short_point,
+)
 from bridge_drivers.model.integer_form import IntegerProgram
 from bridge_drivers.system.deadline import Deadline
 from builders.families import family_model, uneven
@@ -27,8 +32,10 @@ from builders.small_models import MODELS
 from running.certifying import CertifiedModel
 
 pytestmark = pytest.mark.needs("program", "clp_library")
-TOO_WIDE = r"the exact optimum needs numbers of (more than )?\d+ bits; a certificate holds 127"
-NEAR = Fraction(1, 10**5)
+TOO_WIDE = (
+    r"the exact optimum needs numbers of (more than )?\d+ bits \(.*\); a certificate holds 127"
+)
+NEAR = Fraction(1, 10**9)
 
 
 @pytest.fixture(params=["scipy", "without"])
@@ -46,7 +53,7 @@ def certified(folder: Path, text: bytes) -> Evidence:
 
 
 def assert_near(found: Evidence, note: str) -> None:
-    """The claim is `within`, its point and its bound are near each other, and its note is so."""
+    """The claim is `within`, its point and its bound are within 1e-9, and its note is so."""
     assert found.claim == "within", found.line
     bound, value = (Fraction(word) for word in found.line.split()[1:3])
     assert abs(value - bound) <= NEAR * max(Fraction(1), abs(bound))
@@ -54,12 +61,9 @@ def assert_near(found: Evidence, note: str) -> None:
 
 
 @pytest.mark.usefixtures("lifting")
-@pytest.mark.parametrize("size, equations", [(757, 80), (1000, 108)])
-def test_equations_of_decimals_with_columns_of_their_own(
-    tmp_path: Path, size: int, equations: int
-) -> None:
-    way = f"rounding is taken up by columns of {equations} equations alone"
-    assert_near(certified(tmp_path, family_model("staircase", size)), f"{TOO_WIDE}; {way}")
+@pytest.mark.parametrize("size", [757, 1000])
+def test_equations_of_decimals_with_columns_of_their_own(tmp_path: Path, size: int) -> None:
+    assert_near(certified(tmp_path, family_model("staircase", size)), TOO_WIDE)
 
 
 def test_inequalities_of_decimals(tmp_path: Path) -> None:
@@ -77,7 +81,7 @@ def test_badly_scaled_equations_in_pairs_of_columns(tmp_path: Path) -> None:
     found = certified(tmp_path, family_model("uneven", 2000))
     assert found.claim == "within", found.line
     bound, value = map(Fraction, found.line.split()[1:])
-    assert abs(bound - value) < value / 10**6
+    assert abs(bound - value) < value / 10**9
 
 
 @pytest.mark.usefixtures("lifting")
@@ -123,11 +127,11 @@ def test_nearly_equal_equations_contradict_each_other(tmp_path: Path) -> None:
     assert certified(tmp_path, text).line == "infeasible"
 
 
-def decimal_points(program: IntegerProgram) -> DecimalPoints:
+def point_near_clp(program: IntegerProgram) -> ShortPoint | None:
     """From CLP's optimum."""
     clp = relaxation(program)
     assert clp.solve() is LpStatus.OPTIMAL
-    return DecimalPoints(program, clp.saved_basis(), clp.values(), Deadline())
+    return short_point(program, fixed_points(clp.values()), NEAR_OF_DOUBLES, Deadline())
 
 
 def test_equations_of_which_nothing_is_left_to_round(tmp_path: Path) -> None:
@@ -139,16 +143,15 @@ def test_equations_of_which_nothing_is_left_to_round(tmp_path: Path) -> None:
     )
     work = CertifiedModel(tmp_path, text)
     assert work.certify(AnswerClaim.POINT).claim == "optimal"
-    for found in decimal_points(work.program).points():
-        assert work.program.is_feasible(found.point)
+    found = point_near_clp(work.program)
+    assert found is None or work.program.is_feasible(found.point)
 
 
 def test_equations_without_columns_of_their_own(tmp_path: Path) -> None:
-    """What rounding leaves goes through a basis of them."""
+    """Columns are eliminated until each has some."""
     program = CertifiedModel(tmp_path, family_model("decimal_flow", 300)).program
-    found = next(decimal_points(program).points())
-    assert found.way == "rounding is taken up by a basis of 18 equations"
-    assert program.is_feasible(found.point)
+    found = point_near_clp(program)
+    assert found is not None and program.is_feasible(found.point)
 
 
 @pytest.mark.parametrize("proves", [False, True])

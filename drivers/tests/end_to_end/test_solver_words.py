@@ -21,21 +21,14 @@ WORDS = [
     ),
     Call("bridge-glpsol m -AMPL keep=FOLDER/kept", stored="diet", solver_words="--min"),
     Call(
-        "bridge-cbc m -AMPL timelim=9 mipgap=0.1 threads=2 'extra=-cuts off'",
+        "bridge-cbc m -AMPL mipgap=0.1 threads=2 'extra=-cuts off'",
         stored="product",
-        solver_words="-timeMode elapsed -sec 9 -ratio 0.1 -threads 2 -cuts off -solve",
+        solver_words="-ratio 0.1 -threads 2 -cuts off -solve",
     ),
     Call(
-        "bridge-glpsol m -AMPL timelim=8.5 relax=1 xcheck=1",
+        "bridge-glpsol m -AMPL relax=1 xcheck=1",
         stored="product",
-        solver_words="--nomip --tmlim 9 --xcheck",
-    ),
-    Call("bridge-clp m -AMPL timelim=9", stored="product", solver_words="-sec 9 -solve"),
-    Call("bridge-esolver m -AMPL timelim=9", stored="product", solver_words="-R 9 -O"),
-    Call(
-        "bridge-lp_solve m -AMPL timelim=9 relax=1",
-        stored="product",
-        solver_words="-noint -timeout 9",
+        solver_words="--nomip --xcheck",
     ),
 ]
 

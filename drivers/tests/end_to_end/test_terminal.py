@@ -2,6 +2,7 @@
 
 from __future__ import annotations
 
+import os
 import subprocess
 import sys
 
@@ -68,3 +69,30 @@ def test_progress_is_one_line(workspace: Workspace, columns: int) -> None:
     assert terminal.most_lines >= 1
     assert b"\\x0d" not in terminal.raw
     assert "incumbent" not in "".join(terminal.lines())
+
+
+@pytest.mark.needs("program")
+def test_a_solver_that_holds_its_output_back(workspace: Workspace) -> None:
+    """An incumbent is shown while the solver goes on, and not at its end."""
+    workspace.write_model("knap")
+    fifo = workspace.path("fifo")
+    os.mkfifo(fifo)
+    asked = workspace.path("asked")
+    solver = workspace.script(  # grep does as C programs do at a pipe; it is not asked twice
+        "cbc", f"[ -e '{asked}' ] && exit 3; touch '{asked}'; exec grep Cbc '{fifo}'"
+    )
+    found = "Cbc0012I Integer solution of -17 found by rounding after 0 iterations and 0 nodes\n"
+    with open_terminal(80) as terminal:
+        child = subprocess.Popen(
+            [sys.executable, str(BIN / "bridge-cbc"), "m", f"solver={solver}"],
+            cwd=workspace.folder,
+            stdin=subprocess.DEVNULL,
+            stdout=subprocess.PIPE,
+            stderr=terminal.theirs,
+            env=workspace.environment(TERM="xterm"),
+        )
+        with open(fifo, "w", encoding="ascii") as log:
+            log.write(found)
+            log.flush()
+            terminal.read_until(lambda: "incumbent 17" in "".join(terminal.lines()))
+        child.communicate(timeout=SECONDS)

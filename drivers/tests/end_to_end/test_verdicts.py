@@ -84,7 +84,7 @@ def test_values_that_are_printed(workspace: Workspace) -> None:
     workspace.write_model("thirds")
     ended = workspace.replay("esolver", stored_runs("esolver")["thirds"], "m", "wantsol=14", "-e")
     names = [line.split()[0] for line in ended.out.splitlines()]
-    assert names == ["x0", "x1", "duals", "c0", "c1"]
+    assert names == ["values", "x0", "x1", "duals", "c0", "c1"]
 
 
 @pytest.mark.needs("program", "glpsol")
@@ -94,9 +94,10 @@ def test_a_screen_of_values(workspace: Workspace) -> None:
     workspace.write("m.nl", nl_text(columns, [], [most(1)]))
     ended = workspace.run("bridge-glpsol", "m", "-e")
     lines = ended.out.splitlines()
-    shown = lines[lines.index("optimal 0") + 1 :]
-    assert shown[:20] == [f"x{j} 1" for j in range(1, 40, 2)]
-    assert shown[20].startswith("(80 values more: wantsol=2 prints all")
+    heading, *shown = lines[lines.index("optimal 0") + 1 :]
+    assert heading == "values"
+    assert shown[:20] == [f"  x{j} 1" for j in range(1, 40, 2)]
+    assert shown[20].startswith("  (80 values more: wantsol=2 prints all")
     assert len(shown) == 21
 
 

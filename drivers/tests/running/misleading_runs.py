@@ -13,6 +13,8 @@ from running.workspace import Workspace
 
 SOLVED = 0
 INFEASIBLE, UNBOUNDED = 200, 300
+CODES = {"infeasible": INFEASIBLE, "unbounded": UNBOUNDED}  # of last lines
+PROVED = ("optimal", "within")  # first words of last lines that have code 0 with prove=1
 
 
 @dataclass(frozen=True)
@@ -56,7 +58,7 @@ def judge_run(
     if ended.status != 0:
         return JudgedRun(-1, f"it ended with {ended.status}")
     sol = SolFile(workspace.path("m.sol"))
-    wrong = fault_of(model, sol)
+    wrong = fault_of(model, sol, options)
     if wrong:
         return JudgedRun(sol.code, f"{wrong} ({sol.last_line})", "", sol.last_line)
     ended = workspace.run(command, *words, "check=0", *own_options)
@@ -65,18 +67,23 @@ def judge_run(
     return JudgedRun(sol.code, "", lost, sol.last_line)
 
 
-def fault_of(model: Misleading, sol: SolFile) -> str:
-    """What is wrong; infeasible and unbounded are claims too, where they are proved."""
+def fault_of(model: Misleading, sol: SolFile, options: Sequence[str] = ()) -> str:
+    """What is wrong: codes 0, 200 and 300 are claims, and so are `infeasible` and `unbounded`.
+
+    With `prove=1` among the options code 0 is to be proved.
+    """
     if "a fault of the driver" in sol.text:
         return "a fault of the driver"
     if not sol.has_allowed_code():
         return "no code above this line"
+    if sol.code == SOLVED and "prove=1" in options and sol.last_line.split()[0] not in PROVED:
+        return "code 0 is not proved"
     if sol.code == SOLVED:
         has_values = bool(sol.values) or not model.columns
         return model.fault(sol.values) if has_values else "no values"
-    if sol.last_line == "infeasible" and model.best is not None:
+    if INFEASIBLE in (sol.code, CODES.get(sol.last_line)) and model.best is not None:
         return "there is a point"
-    if sol.last_line == "unbounded" and not model.is_unbounded:
+    if UNBOUNDED in (sol.code, CODES.get(sol.last_line)) and not model.is_unbounded:
         return "there is no point" if model.best is None else "there is a best point"
     return ""
 

@@ -36,6 +36,12 @@ class Terminal:
         self.raw = b""
         self.most_lines = 0
 
+    def resize(self, columns: int) -> None:
+        """Gives it another width, from now on; what it shows is cut."""
+        size = struct.pack("HHHH", ROWS, columns, 0, 0)
+        fcntl.ioctl(self._ours, termios.TIOCSWINSZ, size)
+        self._screen.resize(ROWS, columns)
+
     def lines(self) -> List[str]:
         """The lines that are filled now."""
         return [line.rstrip() for line in self._screen.display if line.strip()]

@@ -204,8 +204,9 @@ def line_of_model(path: str, seconds: str, folder: str) -> Sequence[str]:
     name = re.sub(r"(\.nl|\.mps)?(\.gz|\.bz2|\.xz)?$", "", os.path.basename(path))
     certificate = Path(folder, name + ".certificate")
     command = [sys.executable, "-c", RUN_AND_TELL_MEMORY, str(BIN / "bridge-certify"), path]
-    options = [f"timelim={seconds}", "stats=1", f"certificate={certificate}"]
-    told, spent = run_within([*command, *options], 2 * float(seconds) + MARGIN)
+    both = 2 * float(seconds)  # for the solver, and for the search
+    options = [f"timelim={both:g}", "stats=1", f"certificate={certificate}"]
+    told, spent = run_within([*command, *options], both + MARGIN)
     nodes = size = search = ""
     memory = told.pop() if told[-1].isdigit() else ""
     if certificate.exists():

@@ -4,12 +4,17 @@ from __future__ import annotations
 
 import itertools
 from fractions import Fraction
-from typing import Iterator, List, Optional
+from typing import Iterator, List, Optional, Sequence, Tuple
 
 from hypothesis import strategies as st
 
 from bridge_drivers.model.integer_form import IntegerProgram, Point
-from programs import Column, Row, program
+from programs import Column, Number, Row, program
+
+
+Bounds = Tuple[Optional[Number], Optional[Number]]
+NUMBERS: Sequence[Number] = [1, 2, -1, 3, -2, "0.5", 7]
+COVER_COSTS: Sequence[Number] = ("0.75", 1, "0.75", 1, "0.75", 1)
 
 
 @st.composite
@@ -37,18 +42,18 @@ def boxed_programs(draw: st.DrawFn) -> IntegerProgram:
 def mixed_programs(draw: st.DrawFn) -> IntegerProgram:
     """Continuous columns with and without bounds beside integer ones."""
     count = draw(st.integers(2, 4))
-    free = st.sampled_from([(0, None), (None, None), ("-1.5", 3), (0, "2.5")])
-    boxed = st.sampled_from([(-2, 3), ("-1.5", "2.5"), (0, None)])
+    free: Sequence[Bounds] = [(0, None), (None, None), ("-1.5", 3), (0, "2.5")]
+    boxed: Sequence[Bounds] = [(-2, 3), ("-1.5", "2.5"), (0, None)]
+    costs: Sequence[Number] = [1, -2, 3, "0.25"]
     columns = []
     for j in range(count):
-        ends = draw(free if j < count // 2 else boxed)
-        columns.append(Column(*ends, j >= count // 2, draw(st.sampled_from([1, -2, 3, "0.25"]))))
+        lower, upper = draw(st.sampled_from(free if j < count // 2 else boxed))
+        columns.append(Column(lower, upper, j >= count // 2, draw(st.sampled_from(costs))))
     rows = []
     for _ in range(draw(st.integers(0, 3))):
         at, size = draw(st.integers(-4, 8)), draw(st.sampled_from([0, 2]))
         sides = draw(st.sampled_from([(None, at), (at, None), (at, at + size)]))
-        numbers = st.sampled_from([1, 2, -1, 3, -2, "0.5", 7])
-        rows.append(Row(*sides, {j: draw(numbers) for j in range(count)}))
+        rows.append(Row(*sides, {j: draw(st.sampled_from(NUMBERS)) for j in range(count)}))
     return program(columns, rows, draw(st.sampled_from(["min", "max"])))
 
 
@@ -80,7 +85,7 @@ EQUATION = program(
     [Row(1000, 1000, {0: 37, 1: 53, 2: 111})],
 )  # 14
 COVER = program(
-    [Column(0, 1, is_integer=True, cost=cost) for cost in ("0.75", 1, "0.75", 1, "0.75", 1)],
+    [Column(0, 1, is_integer=True, cost=cost) for cost in COVER_COSTS],
     [
         *(Row(1, None, {k: 1, (k + 1) % 6: 1}) for k in range(6)),
         Row(2, None, {0: 1, 2: 1, 4: 1, 5: 1}),

@@ -2,6 +2,7 @@
 
 from __future__ import annotations
 
+import contextlib
 import errno
 import io
 import os
@@ -9,7 +10,7 @@ import subprocess
 import sys
 import threading
 import time
-from typing import Callable, Dict, List
+from typing import Callable, Dict, Iterator, List
 from unittest import mock
 
 import pytest
@@ -23,8 +24,9 @@ from bridge_drivers.commands.console import (
 )
 from bridge_drivers.system.errors import BrokenOutput
 from bridge_drivers.system.progress import Progress
+from bridge_drivers.system.text import cut_to_width
 from running.places import DRIVERS
-from running.terminal import open_terminal
+from running.terminal import Terminal as RealTerminal, open_terminal
 
 SECONDS = 120.0
 # a program whose progress is what it reads, and that ends when nothing more is to be read
@@ -32,7 +34,7 @@ SHOWS = """
 import sys
 from bridge_drivers.commands import console
 from bridge_drivers.system.progress import Progress
-console.FIRST_SECONDS = console.EVERY_SECONDS = 0.05
+console.FIRST_SECONDS = console.EVERY_SECONDS = console.LINE_SECONDS = 0.05
 progress = Progress()
 told = console.Console(sys.stdout, sys.stderr)
 with told.progress("bridge-cbc", progress, in_place=True):
@@ -217,7 +219,8 @@ def test_progress_on_a_real_terminal(columns: int) -> None:
             mark = detail.replace("\x1b", "\\x1b").rstrip("\r\n")[:6]
             terminal.read_until(lambda: mark in "".join(terminal.lines()))
             (line,) = terminal.lines()
-            assert line.startswith(head)
+            is_wide = cut_to_width(head + "0 s, " + detail, columns - 1) != head + "0 s, " + detail
+            assert line.startswith("cbc, " if is_wide else head)  # the command goes first
             assert "\\x0d" not in line
             assert "\\x1b[K" not in line
         child.stdin.close()
@@ -225,3 +228,50 @@ def test_progress_on_a_real_terminal(columns: int) -> None:
         terminal.read_rest()
         assert terminal.lines() == ["done"]
         assert terminal.most_lines == 1
+
+
+def test_progress_on_a_terminal_that_is_made_narrower() -> None:
+    """Each state has the width that the terminal has then."""
+    with open_terminal(80) as terminal, showing(terminal) as tell:
+        for columns in (80, 30, 60, 12):
+            terminal.resize(columns)
+            detail = f"of {columns} " + "x" * 100
+            tell(detail)
+            # what a terminal shows of the words of that state
+            shown = "cbc, 0 s, " + detail
+            terminal.read_until(
+                lambda: [line[9:] for line in terminal.lines()] == [shown[: columns - 1][9:]]
+            )
+        assert terminal.most_lines == 1
+
+
+def test_progress_on_a_dumb_terminal() -> None:
+    """It can rewrite nothing: there is a line now and then, without a control."""
+    with open_terminal(80) as terminal, showing(terminal, TERM="dumb") as tell:
+        tell("incumbent 17")
+        terminal.read_until(lambda: terminal.raw.count(b"incumbent 17\r\n") > 1)
+        assert b"\x1b" not in terminal.raw
+
+
+@contextlib.contextmanager
+def showing(terminal: RealTerminal, **environment: str) -> Iterator[Callable[[str], None]]:
+    """A block in which a program shows progress on a terminal; what it is told, it shows."""
+    child = subprocess.Popen(
+        [sys.executable, "-c", SHOWS],
+        stdin=subprocess.PIPE,
+        stdout=subprocess.DEVNULL,
+        stderr=terminal.theirs,
+        env={**os.environ, "TERM": "xterm", "PYTHONPATH": str(DRIVERS), **environment},
+    )
+    assert child.stdin is not None
+
+    def tell(detail: str) -> None:
+        assert child.stdin is not None
+        child.stdin.write((detail + "\n").encode())
+        child.stdin.flush()
+
+    try:
+        yield tell
+    finally:
+        child.stdin.close()
+        child.wait(SECONDS)

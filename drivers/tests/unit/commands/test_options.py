@@ -89,7 +89,7 @@ def test_the_values_of_an_option_in_words() -> None:
     assert known["outlev"].values() == "(0, 1 or 2; 0)"
     assert known["format"].values() == "(free or fixed)"
     assert known["mipgap"].values() == "(a number from 0 to 1; 0)"
-    assert certify_options().known["timelim"].values() == "(a number from 0 on; 60)"
+    assert certify_options().known["timelim"].values() == "(a number from 0 on; 120)"
 
 
 @pytest.mark.parametrize("solver", SOLVERS)
@@ -174,6 +174,6 @@ def test_settings_of_the_solver() -> None:
         values("check=0", "prove=1").run_settings("cbc", writes_sol=False)
 
 
-def test_certify_proves_in_a_minute() -> None:
+def test_certify_proves_in_two_minutes() -> None:
     settings = certify_options().run_settings("cbc", writes_sol=False).settings
-    assert (settings.certificate.prove, settings.time_limit) == (True, 60.0)
+    assert (settings.certificate.prove, settings.time_limit) == (True, 120.0)

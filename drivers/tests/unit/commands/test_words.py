@@ -2,11 +2,13 @@
 
 from __future__ import annotations
 
-from typing import Optional
+from pathlib import Path
+from typing import List, Optional
 
 import pytest
 from bridge_drivers.commands.front_words import FrontCall, parse_front_call, why_not_callable
 from bridge_drivers.commands.nl_bridge import check_callable
+from bridge_drivers.commands.certify import named_driver
 from bridge_drivers.commands.words import DriverCall, HelpKind, parse_driver_call
 from bridge_drivers.system.errors import WrongWords
 
@@ -147,3 +149,77 @@ def test_what_no_command_takes(call: str, why: str) -> None:
     with pytest.raises(WrongWords) as caught:
         check_callable(FrontCall(word, rest))
     assert str(caught.value).startswith(why)
+
+
+@pytest.fixture
+def folder(tmp_path: Path, monkeypatch: pytest.MonkeyPatch) -> Path:
+    """The current folder, which is empty but for a model."""
+    monkeypatch.chdir(tmp_path)
+    (tmp_path / "k.nl").write_text("g3\n")
+    return tmp_path
+
+
+# names that a stranger may give to a file
+TRAPS = ["bridge=sh a.nl", "solver=x", "extra=-foo", "prove=1", "-AMPL", "-s", "-v", "-=", "json=1"]
+
+
+@pytest.mark.parametrize("trap", TRAPS)
+@pytest.mark.parametrize("dashes", [[], ["--"]])
+def test_a_file_is_never_an_option(folder: Path, trap: str, dashes: List[str]) -> None:
+    """In any order that a shell gives to what it finds, before `--` and behind it."""
+    (folder / trap).write_text("")
+    for words in (sorted(["k.nl", trap]), sorted(["k.nl", trap])[::-1], ["k.nl", trap], [trap]):
+        found = parse_driver_call([*dashes, *words])
+        assert (found.options, found.is_ampl, found.saves, found.help_kind) == (
+            [],
+            False,
+            False,
+            None,
+        )
+        assert found.model == words[0]
+        assert bool(found.fault) == (len(words) > 1)
+        assert [trap in note for note in found.notes] == [True]
+        front = parse_front_call(["verify", *dashes, *words])
+        assert (list(front.rest), front.wants_json, front.wants_help) == (words, False, False)
+
+
+@pytest.mark.parametrize("word", ["bridge=sh", "-solver=x", "EXTRA=y"])
+def test_behind_dashes_nothing_starts_a_program(folder: Path, word: str) -> None:
+    assert "starts a program" in parse_driver_call(["k.nl", "--", word]).fault
+    assert parse_driver_call(["k.nl", word]).options == [word]
+    assert not parse_driver_call(["k.nl", "--", "prove=1"]).fault
+
+
+def test_a_value_may_be_a_file(folder: Path) -> None:
+    (folder / "c").write_text("")
+    for call in (
+        "k.nl certificate c",
+        "k.nl certificate = c",
+        "k.nl certificate= c",
+        "-certificate c k.nl",
+    ):
+        found = parse_driver_call(call.split())
+        assert (found.model, found.fault) == ("k.nl", "")
+        assert found.options[-1] == "c"
+
+
+@pytest.mark.parametrize(
+    "words",
+    [
+        ["driver=clp"],
+        ["driver", "clp"],
+        ["driver", "=", "clp"],
+        ["-driver=clp"],
+        ["DRIVER=clp"],
+        ["driver=cbc", "driver=clp"],
+        ["mipgap=0", "driver=clp"],
+    ],
+)
+def test_the_driver_of_certificates_in_any_spelling(words: List[str]) -> None:
+    assert named_driver(["k.nl", *words]) == "clp"
+
+
+def test_the_driver_of_certificates_in_the_variable(monkeypatch: pytest.MonkeyPatch) -> None:
+    monkeypatch.setenv("bridge_certify_options", "driver=clp")
+    assert named_driver(["k.nl"]) == "clp"
+    assert named_driver(["k.nl", "driver=glpsol"]) == "glpsol"

@@ -59,7 +59,9 @@ def test_the_optimum_of_a_basis() -> None:
         ([0], [1], [1.25, 0.0], "row 0 is missed"),
     ],
 )
-def test_bases_that_are_not_optimal(columns, rows, x, why: str) -> None:
+def test_bases_that_are_not_optimal(
+    columns: List[int], rows: List[int], x: List[float], why: str
+) -> None:
     with pytest.raises(NotSolved, match=why):
         exact_optimum(two_rows(), Basis(columns, rows), x)
 

@@ -3,7 +3,7 @@
 from __future__ import annotations
 
 from fractions import Fraction
-from typing import List
+from typing import List, Tuple
 
 import pytest
 from hypothesis import given
@@ -22,7 +22,7 @@ from bridge_drivers.exact.certificate import (
     tree_lines,
 )
 from bridge_drivers.exact.dual_bound import MultiplierKind, Multipliers
-from bridge_drivers.exact.tree import EmptyDomain, Split, Tree, leaf_of, node_count
+from bridge_drivers.exact.tree import EmptyDomain, Leaf, Split, Tree, leaf_of, node_count
 from bridge_drivers.model.integer_form import IntegerProgram
 from bridge_drivers.model.integer_form import Row as AddedRow
 from programs import Column, Row, program
@@ -123,7 +123,7 @@ duals 1
 def test_a_certificate_is_read() -> None:
     found = read_certificate(READ.splitlines())
     assert (found.claim, found.objective, found.numbers) == ("optimal", 0, [])
-    assert (found.point, found.ray) == ({1: 1}, None)
+    assert found.point == {1: Fraction(1)} and found.ray is None
     assert [_row(node) for node in found.nodes] == [
         (NodeKind.CUT, 5, -1, 0, 0, -1, 7, 4),
         (NodeKind.SPLIT, 8, 0, 0, 1, -1, 3, 2),
@@ -138,7 +138,7 @@ def test_a_certificate_is_read() -> None:
     assert (found.nodes[4].at, found.nodes[5].at) == ("2", "")
 
 
-def _row(node: Node):
+def _row(node: Node) -> Tuple[object, ...]:
     return (
         *(node.kind, node.line, node.parent, node.branch, node.depth),
         *(node.leaf_number, node.size, node.leaves),
@@ -205,6 +205,7 @@ def test_a_tree_is_read_back(tree: Tree) -> None:
         elif isinstance(written, EmptyDomain):
             assert (node.kind, node.entries) == (NodeKind.DISJUNCTION, [(0, "1")])
         else:
+            assert isinstance(written, Leaf)
             wanted = written.multipliers()
             values = {i: Fraction(v, wanted.denominator) for i, v in wanted.numerators.items()}
             assert {i: Fraction(text) for i, text in node.entries} == values
@@ -215,10 +216,10 @@ NUMBERING = RowNumbering({}, 2, 1)
 
 
 @given(st.lists(st.tuples(st.booleans(), st.integers(-9, 9)), min_size=1, max_size=8))
-def test_a_leaf_names_the_innermost_branches_of_a_form(steps) -> None:
+def test_a_leaf_names_the_innermost_branches_of_a_form(steps: List[Tuple[bool, int]]) -> None:
     """Down a path of splits of one form: a multiplier below 0 rests on the last `at most`."""
     leaf = leaf_of(Multipliers({FORM: -1}, 1, FARKAS), ())
-    tree: List = []
+    tree: Tree = []
     closing = 0
     for is_upper, at in steps:
         tree.append(Split(3 + FORM, at))

@@ -4,6 +4,7 @@ from __future__ import annotations
 
 import os
 import signal
+import time
 from fractions import Fraction
 from typing import NoReturn, Sequence
 from unittest import mock
@@ -15,11 +16,14 @@ from bridge_drivers.exact.certifier import certify
 from bridge_drivers.exact.clp import library
 from bridge_drivers.exact.evidence import AnswerByPlace, AnswerClaim, EvidenceStore, first_proved
 from bridge_drivers.exact.evidence import not_proved
+from bridge_drivers.exact.rational_simplex import SimplexResult
+from bridge_drivers.exact.refutations import Refuter
 from bridge_drivers.exact.search import BranchAndBound
 from bridge_drivers.exact.search_deadline import SearchDeadline, SearchProgress
-from bridge_drivers.exact.task import SearchOptions
+from bridge_drivers.exact.task import CertificationTask, SearchOptions
 from bridge_drivers.exact.work_limit import check_work
 from bridge_drivers.model.integer_form import IntegerProgram
+from bridge_drivers.system.errors import SearchPaused
 from bridge_drivers.system.signals import interrupts_to
 from integer_programs import COINS, COVER, EQUATION, KNAPSACK, KNAPSACKS, LOTS, PIGEONS
 from integer_programs import boxed_programs, mixed_programs, optimum_of
@@ -51,6 +55,43 @@ def test_claims_that_do_not_hold(p: IntegerProgram, claim: AnswerClaim) -> None:
     value = found.line.split()[-1]
     assert found.claim == "optimal" and Fraction(value) == found.value
     assert found.line == certified(p).line
+
+
+class NoTimeForFractions(Refuter):
+    """The time ends whenever the simplex method in fractions is asked."""
+
+    def _run_rational_simplex(
+        self, program: IntegerProgram, answer: AnswerByPlace
+    ) -> SimplexResult:
+        raise SearchPaused("time")
+
+
+FREE_COST = program(
+    [Column(0, None, is_integer=True, cost=-1), Column(0, None, cost=1)],
+    [Row(None, 3, {0: 2, 1: -1}), Row(0, 9, {0: 1, 1: 1})],
+)
+
+
+def test_the_time_ends_while_a_ray_is_sought() -> None:
+    """What is known is told all the same."""
+    store = EvidenceStore(FREE_COST, Judge(FREE_COST), 0, SearchDeadline(60.0))
+    refuter = NoTimeForFractions(CertificationTask(FREE_COST, store, store.deadline))
+    assert list(refuter.ray_of_point([Fraction(1), Fraction(0)])) == []
+    assert refuter.certify_ray().line == "not proved: time"
+    with mock.patch("bridge_drivers.exact.certifier.Refuter", NoTimeForFractions):
+        answer = AnswerByPlace([1.0, 0.0])
+        found = certified(FREE_COST, AnswerClaim.POINT, answer=answer)
+    assert found.is_proved and found.value is not None
+
+
+def test_an_exact_bound_is_kept() -> None:
+    """Of the simplex method in fractions, in all its digits."""
+    p = program([Column(0, None, cost=1)], [Row(1, None, {0: "0.123456789012345678901"})])
+    store = EvidenceStore(p, Judge(p), 0, SearchDeadline(60.0))
+    refuter = Refuter(CertificationTask(p, store, store.deadline))
+    found = list(refuter.by_rational_simplex())
+    assert [evidence.claim for evidence in found] == ["optimal"]
+    assert store.bound is not None and store.bound.value == found[0].value
 
 
 def test_no_point() -> None:
@@ -96,7 +137,8 @@ def test_the_first_that_is_proved() -> None:
     store.add_point([Fraction(0)] * 3)
     store.add_point([Fraction(1), Fraction(1), Fraction(0)])
     found = first_proved(iter([not_proved("x"), *store.claims()]))
-    assert found.line == "feasible 17" and found.point == [1, 1, 0]
+    assert found.line == "feasible 17"
+    assert found.point == [Fraction(1), Fraction(1), Fraction(0)]
     assert first_proved([]).line == "not proved: no certificate was found"
     assert AnswerByPlace([Fraction(1, 2)]).doubles() == [0.5]
 
@@ -124,7 +166,34 @@ def test_an_answer_beside_a_point(off: int, proves: bool) -> None:
     answer = AnswerByPlace([9.0, 2.0, float(best + off)])
     p, options = program(columns, rows, "max"), SearchOptions(proves=proves)
     found = certified(p, AnswerClaim.POINT, answer=answer, options=options)
-    assert found.point == [9, 2, best] and found.claim in ("optimal", "within", "feasible")
+    assert found.point == [Fraction(9), Fraction(2), Fraction(best)] and found.claim in (
+        "optimal",
+        "within",
+        "feasible",
+    )
+
+
+@pytest.mark.parametrize("load", [1.0, 25.0])
+def test_a_busy_machine(load: float, monkeypatch: pytest.MonkeyPatch) -> None:
+    """A short search of many terms ends the same where the wall's clock goes 25 times as fast."""
+    wall, began = time.monotonic(), time.process_time()
+    monkeypatch.setattr(time, "monotonic", lambda: wall + load * (time.process_time() - began))
+    rows = 1000
+    columns = [Column(0, 1, is_integer=True, cost=1 + j % 7) for j in range(10 * rows)]
+    p = program(columns, [Row(1, None, {10 * i + k: 1 for k in range(10)}) for i in range(rows)])
+    values = [
+        float(j % 10 == min(range(10), key=lambda k: (j - j % 10 + k) % 7)) for j in range(p.n)
+    ]
+    deadline = SearchDeadline(1.0, of_processor=True)
+    found = certify(
+        p,
+        Judge(p),
+        claim=AnswerClaim.POINT,
+        answer=AnswerByPlace(values),
+        deadline=deadline,
+        options=SearchOptions(proves=False),
+    )
+    assert found.claim == "optimal"
 
 
 def test_coins_that_make_no_sum() -> None:

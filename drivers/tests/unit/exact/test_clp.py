@@ -3,16 +3,20 @@
 from __future__ import annotations
 
 from fractions import Fraction
+from typing import Callable
 
 import pytest
 from hypothesis import given
 from hypothesis import strategies as st
 
 from bridge_drivers.exact import clp as clp_module
+from bridge_drivers.exact import search_deadline
+from bridge_drivers.exact.certifier import limit_all_work
 from bridge_drivers.exact.clp import Basis, Clp, ClpNotInstalled, LpStatus, library
 from bridge_drivers.exact.dual_bound import MultiplierKind, dual_bound
 from bridge_drivers.exact.leaf_proofs import LeafProver, from_fractions
 from bridge_drivers.exact.relaxation import phase_one, relaxation
+from bridge_drivers.exact.search_deadline import SearchDeadline
 from bridge_drivers.model.integer_form import IntegerProgram
 from bridge_drivers.system.deadline import Deadline
 from programs import Column, Row, box_of, program
@@ -35,6 +39,41 @@ def test_an_optimum() -> None:
     assert clp.values() == pytest.approx([17 / 13, 1 / 26])
     assert clp.duals() == pytest.approx([12 / 13, -10 / 13])
     assert clp.basis() == Basis([0, 1], [0, 1])
+
+
+class InterruptedLibrary:
+    """Stops each solve by its time, and the user interrupts the first."""
+
+    def __init__(self, clp: Clp, deadline: SearchDeadline) -> None:
+        self.library = clp.lib
+        self.deadline = deadline
+        self.solves = 0
+
+    def __getattr__(self, name: str) -> Callable[..., object]:
+        return getattr(self.library, name)  # type: ignore[no-any-return]
+
+    def Clp_dual(self, model: object, passes: int) -> int:
+        self.solves += 1
+        assert self.solves < 1000
+        if self.solves == 1:
+            self.deadline.interrupt()
+        return 0
+
+    def Clp_status(self, model: object) -> int:
+        return 3
+
+
+def test_an_interrupt_ends_a_solve(monkeypatch: pytest.MonkeyPatch) -> None:
+    """Behind the slice that runs, also where there is no limit of time."""
+    monkeypatch.setattr(search_deadline, "INTERRUPT_SECONDS", 0.0)
+    clp, deadline = relaxation(two_rows()), SearchDeadline()
+    interrupted = InterruptedLibrary(clp, deadline)
+    monkeypatch.setattr(clp, "lib", interrupted)
+    try:
+        assert clp.solve() is LpStatus.OTHER
+        assert interrupted.solves == 1
+    finally:
+        limit_all_work(Deadline())
 
 
 def test_bounds_that_change() -> None:

@@ -4,6 +4,8 @@ from __future__ import annotations
 
 from fractions import Fraction
 
+from typing import List, Tuple
+
 import pytest
 from hypothesis import given
 from hypothesis import strategies as st
@@ -16,6 +18,7 @@ from bridge_drivers.exact.dual_bound import (
     is_optimal_in_doubles,
     row_residuals,
 )
+from bridge_drivers.model.integer_form import IntegerProgram
 from programs import Column, Row, box_of, program
 
 DUAL, FARKAS = MultiplierKind.DUAL, MultiplierKind.FARKAS
@@ -48,15 +51,18 @@ def test_a_column_without_the_bound_that_it_needs() -> None:
     assert bound.unbounded_columns == [0]
 
 
+Case = Tuple[IntegerProgram, List[int], Multipliers]
+
+
 @st.composite
-def boxed_programs(draw: st.DrawFn):
+def boxed_programs(draw: st.DrawFn) -> Case:
     """Programs of bounded columns, an integer point of each, and any dual multipliers."""
     count = draw(st.integers(1, 4))
-    columns = []
+    columns, point = [], []
     for _ in range(count):
-        lower = draw(SMALL)
-        columns.append(Column(lower, lower + draw(st.integers(0, 4)), cost=draw(SMALL)))
-    point = [draw(st.integers(int(column.lower), int(column.upper))) for column in columns]
+        lower, size = draw(SMALL), draw(st.integers(0, 4))
+        columns.append(Column(lower, lower + size, cost=draw(SMALL)))
+        point.append(draw(st.integers(lower, lower + size)))
     rows, numerators = [], {}
     for i in range(draw(st.integers(0, 3))):
         coefficients = {j: draw(SMALL) for j in range(count)}
@@ -72,7 +78,7 @@ def boxed_programs(draw: st.DrawFn):
 
 
 @given(boxed_programs())
-def test_no_feasible_point_is_below_the_bound(case) -> None:
+def test_no_feasible_point_is_below_the_bound(case: Case) -> None:
     """Weak duality, for any multipliers at all: the rule on which every leaf rests."""
     p, point, multipliers = case
     bound = dual_bound(p, multipliers, box_of(p))
@@ -81,13 +87,13 @@ def test_no_feasible_point_is_below_the_bound(case) -> None:
 
 
 @given(boxed_programs())
-def test_farkas_multipliers_do_not_refute_a_feasible_program(case) -> None:
+def test_farkas_multipliers_do_not_refute_a_feasible_program(case: Case) -> None:
     p, _, multipliers = case
     assert dual_bound(p, multipliers._replace(kind=FARKAS), box_of(p)).numerator <= 0
 
 
 @given(boxed_programs())
-def test_equal_multipliers_have_equal_bounds(case) -> None:
+def test_equal_multipliers_have_equal_bounds(case: Case) -> None:
     p, _, multipliers = case
     numerators = {row: 6 * v for row, v in multipliers.numerators.items()}
     other = Multipliers(numerators, 6 * multipliers.denominator, DUAL)
@@ -96,7 +102,7 @@ def test_equal_multipliers_have_equal_bounds(case) -> None:
 
 
 @given(boxed_programs())
-def test_doubles_say_optimal_only_near_the_exact_bound(case) -> None:
+def test_doubles_say_optimal_only_near_the_exact_bound(case: Case) -> None:
     """A point that duals bound in doubles is hardly above their exact bound."""
     p, point, multipliers = case
     x = [float(v) for v in point]

@@ -47,8 +47,8 @@ def intervals(draw: st.DrawFn) -> IntegerProgram:
         lower = draw(HALVES)
         upper = draw(st.none() | st.sampled_from([lower, lower + 1]))
         ends = (lower, upper) if draw(st.booleans()) else (None, lower)
-        texts = [None if end is None else decimal(end) for end in ends]
-        rows.append(Row(*texts, {j: decimal(a * factor) for j, a in form.items()}))
+        least, most = (None if end is None else decimal(end) for end in ends)
+        rows.append(Row(least, most, {j: decimal(a * factor) for j, a in form.items()}))
     return program([Column(-3, 3, is_integer=True) for _ in form], rows)
 
 
@@ -140,7 +140,9 @@ def test_intervals_that_are_refuted_are_empty(p: IntegerProgram) -> None:
         ),
     ],
 )
-def test_empty_intervals_by_hand(columns, rows, form, floor) -> None:
+def test_empty_intervals_by_hand(
+    columns: List[Column], rows: List[Row], form: Dict[int, int], floor: int
+) -> None:
     """Of a column, of one row, and of two rows with the same form."""
     p = program(columns, rows)
     found = empty_interval(p)
@@ -161,5 +163,5 @@ def test_empty_intervals_by_hand(columns, rows, form, floor) -> None:
         ),
     ],
 )
-def test_intervals_that_are_not_empty(columns, rows) -> None:
+def test_intervals_that_are_not_empty(columns: List[Column], rows: List[Row]) -> None:
     assert empty_interval(program(columns, rows)) is None

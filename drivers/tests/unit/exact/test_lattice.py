@@ -4,7 +4,7 @@ from __future__ import annotations
 
 import itertools
 from fractions import Fraction
-from typing import List
+from typing import Dict, List
 
 import pytest
 from hypothesis import assume, given
@@ -104,7 +104,9 @@ SMALL = st.integers(-9, 9)
     st.dictionaries(st.integers(0, 4), st.integers(-(10**6), 10**6).filter(bool), min_size=1),
     st.lists(st.dictionaries(st.integers(0, 4), SMALL.filter(bool), min_size=1), max_size=3),
 )
-def test_forms_differ_by_multiples_of_equations(form, equations) -> None:
+def test_forms_differ_by_multiples_of_equations(
+    form: Dict[int, int], equations: List[Dict[int, int]]
+) -> None:
     """At each point where the equations have the value 0, the form has the value it had."""
     found = reduced_modulo(form, equations)
     difference = {j: found.get(j, 0) - form.get(j, 0) for j in {**form, **found}}
@@ -124,7 +126,9 @@ def test_forms_differ_by_multiples_of_equations(form, equations) -> None:
         ({2: 7}, [], {2: 7}),
     ],
 )
-def test_forms_modulo_equations_by_hand(form, equations, reduced) -> None:
+def test_forms_modulo_equations_by_hand(
+    form: Dict[int, int], equations: List[Dict[int, int]], reduced: Dict[int, int]
+) -> None:
     assert reduced_modulo(form, equations) == reduced
 
 

@@ -115,7 +115,9 @@ def test_remainders(moduli: List[int], x: int) -> None:
     assert judged(p, found) == f"optimal {x % period}"
 
 
-@pytest.mark.parametrize("a, b", [(1000000007, 998244353), (10**12 + 39, 10**12 + 61), (37, 21)])
+@pytest.mark.parametrize(
+    "a, b", [(1000000007, 998244353), (10**12 + 39, 10**12 + 61), (37, 21)]
+)
 @pytest.mark.parametrize("has_room", [True, False], ids=["point", "none"])
 def test_two_coprime_numbers(a: int, b: int, has_room: bool) -> None:
     """a x - b y = 1: the least x is the inverse of a; in a smaller box there is no point."""
@@ -137,6 +139,25 @@ def test_a_frobenius_number_has_no_sum() -> None:
         found = lattice_optimum(program(columns, [Row(side, side, coins)]), goes_on)
         assert found is not None and found.tree is not None
         assert (found.point is not None) == is_sum
+
+
+@given(
+    st.sampled_from([10**19, 10**20, 3 * 10**21 + 1]),
+    st.lists(st.integers(1, 9), min_size=3, max_size=3),
+    st.integers(0, 30),
+)
+def test_wide_rows(size: int, numbers: List[int], rest: int) -> None:
+    """A row with a coefficient beside which doubles lose the other one."""
+    a, cost, most = numbers
+    p = program(
+        [Column(0, 5, True, cost), Column(0, 6, True, 1)],
+        [Row(None, most % 5 * size + rest, {0: size, 1: a})],
+        "max",
+    )
+    found = lattice_optimum(p, goes_on)
+    assert found is not None and found.point is not None
+    assert p.sign * p.value(found.point) == optimum_of(p)
+    assert judged(p, found).startswith("optimal ")
 
 
 def test_what_is_left_alone() -> None:

@@ -3,7 +3,7 @@
 from __future__ import annotations
 
 from fractions import Fraction
-from typing import Optional
+from typing import Optional, Tuple
 
 import pytest
 from hypothesis import given
@@ -91,7 +91,7 @@ def test_a_convergent_is_near(value: float, largest: int) -> None:
 
 
 @st.composite
-def knapsacks(draw: st.DrawFn):
+def knapsacks(draw: st.DrawFn) -> Tuple[IntegerProgram, Fraction, float]:
     """A knapsack of real columns from 0 to 1, minimised, and doubles near its optimal dual."""
     count = draw(st.integers(1, 6))
     weights = [draw(st.integers(1, 20)) for _ in range(count)]
@@ -105,7 +105,9 @@ def knapsacks(draw: st.DrawFn):
 
 
 @given(knapsacks(), st.one_of(st.none(), st.just(0)))
-def test_what_is_proved_reaches_the_cutoff(case, shift: Optional[int]) -> None:
+def test_what_is_proved_reaches_the_cutoff(
+    case: Tuple[IntegerProgram, Fraction, float], shift: Optional[int]
+) -> None:
     """Whatever rounding is taken, the exact bound of what is returned is at the cutoff or above."""
     p, dual, near = case
     exact = dual_bound(p, leaf_proofs.from_fractions(p, {0: dual}, DUAL), box_of(p)).value
@@ -120,7 +122,7 @@ def test_what_is_proved_reaches_the_cutoff(case, shift: Optional[int]) -> None:
 
 
 @st.composite
-def proofs_of_many_rows(draw: st.DrawFn):
+def proofs_of_many_rows(draw: st.DrawFn) -> Tuple[IntegerProgram, Multipliers, Fraction]:
     """A program of bounded columns, multipliers of five rows, and a cutoff below their bound."""
     small = st.lists(st.integers(-4, 4), min_size=3, max_size=3)
     columns = [Column(-1, upper, cost=cost) for upper, cost in zip((1, 2, 3), draw(small))]
@@ -136,7 +138,9 @@ def proofs_of_many_rows(draw: st.DrawFn):
 
 
 @given(proofs_of_many_rows())
-def test_sparsified_proofs_still_reach_the_cutoff(case) -> None:
+def test_sparsified_proofs_still_reach_the_cutoff(
+    case: Tuple[IntegerProgram, Multipliers, Fraction],
+) -> None:
     p, multipliers, cutoff = case
     prover = LeafProver(p, cutoff)
     proof = prover.prove(multipliers, box_of(p))

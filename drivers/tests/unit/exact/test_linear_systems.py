@@ -2,8 +2,10 @@
 
 from __future__ import annotations
 
+import functools
+import operator
 from fractions import Fraction
-from typing import Dict, List, Tuple
+from typing import Dict, List, Optional, Tuple
 
 import pytest
 from hypothesis import given
@@ -12,12 +14,11 @@ from hypothesis import strategies as st
 from bridge_drivers.exact.linear_systems import (
     Equation,
     LiftedSystem,
-    NotSolved,
-    TooManyBits,
     reconstructed,
     scipy_or_none,
     solve_exactly,
 )
+from bridge_drivers.system.errors import NotSolved, TooManyBits
 
 NEEDS_SCIPY = pytest.mark.skipif(scipy_or_none() is None, reason="no SciPy")
 FRACTIONS = st.fractions(-9, 9, max_denominator=5)
@@ -42,7 +43,7 @@ def test_a_solution_satisfies_each_equation(system: List[Equation]) -> None:
     found = solve_exactly(system)
     assert found is not None
     for coefficients, rhs in system:
-        assert activity(dict(coefficients), found) == rhs
+        assert activity({j: Fraction(a) for j, a in coefficients.items()}, found) == rhs
 
 
 @given(solvable_systems(), st.data())
@@ -69,7 +70,7 @@ def test_a_contradiction_is_found(system: List[Equation], data: st.DataObject) -
         ([({3: 2}, 5)], {3: Fraction(5, 2)}),
     ],
 )
-def test_systems_by_hand(system, solution) -> None:
+def test_systems_by_hand(system: List[Equation], solution: Optional[Dict[int, Fraction]]) -> None:
     found = solve_exactly(system)
     assert (found is None) == (solution is None)
     assert {k: v for k, v in (found or {}).items() if v} == (solution or {})
@@ -90,7 +91,7 @@ def square_systems(draw: st.DrawFn) -> Tuple[Pairs, List[int]]:
     size = draw(st.integers(1, 12))
     rows = []
     for i in range(size):
-        others = st.integers(0, size - 1).filter(lambda j, i=i: j != i)
+        others = st.integers(0, size - 1).filter(functools.partial(operator.ne, i))
         entries = draw(st.dictionaries(others, st.integers(-50, 50).filter(bool), max_size=4))
         largest = 1 + sum(abs(a) for a in entries.values())
         rows.append([*entries.items(), (i, draw(st.sampled_from((-1, 1))) * largest)])

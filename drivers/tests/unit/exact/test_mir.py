@@ -5,6 +5,7 @@ from __future__ import annotations
 import itertools
 from fractions import Fraction
 from math import ceil, floor
+from typing import Dict, List, Tuple
 
 from hypothesis import HealthCheck, assume, given, settings
 from hypothesis import strategies as st
@@ -17,6 +18,7 @@ from bridge_drivers.exact.mir_separation import (
     mir_coefficient,
     variable_bounds,
 )
+from bridge_drivers.model.integer_form import IntegerProgram
 from programs import Column, Row, program
 
 
@@ -36,6 +38,16 @@ def test_a_variable_upper_bound() -> None:
     assert prove_mir_cut(p, cut) is not None
 
 
+def test_a_continuous_term_that_is_taken_away() -> None:
+    """x - y <= 1/2 gives x - 2 y <= 0, which holds at x = 3/2, y = 1: by no divisor there is a cut."""
+    p = program([Column(0, 3, is_integer=True), Column(0, 5)], [Row(None, "0.5", {0: 1, 1: -1})])
+    assert best_divisor(Substitutions(p, [1.5, 1.0]), {0: 1.0}, ((1, 1),)) is None
+    divisor = best_divisor(Substitutions(p, [1.5, 0.5]), {0: 1.0}, ((1, 1),))
+    assert divisor is not None
+    cut = mir_cut(Substitutions(p, [1.5, 0.5]), {0: 1.0}, divisor)
+    assert cut is not None and (cut.coefficients, cut.rhs) == ({0: 1, 1: -2}, 0)
+
+
 @given(st.floats(-50, 50), st.floats(0.01, 0.99))
 def test_the_function_of_mir(quotient: float, fraction: float) -> None:
     """It lies between the number rounded down and the number rounded up, and below the number."""
@@ -48,8 +60,11 @@ HALVES = st.lists(st.integers(-18, 18), min_size=4, max_size=4)
 FACTORS = st.sampled_from((-0.5, 1 / 3, 1.0, 2.0, 0.7))
 
 
+Case = Tuple[IntegerProgram, List[int], List[float], Dict[int, float]]
+
+
 @st.composite
-def mixed_programs(draw: st.DrawFn):
+def mixed_programs(draw: st.DrawFn) -> Case:
     """One continuous and three integer columns, rows with decimals, and a point to cut off."""
     uppers = draw(st.lists(st.integers(1, 3), min_size=4, max_size=4))
     columns = [Column(0, upper, is_integer=j > 0) for j, upper in enumerate(uppers)]
@@ -68,7 +83,7 @@ def mixed_programs(draw: st.DrawFn):
     max_examples=30, suppress_health_check=[HealthCheck.filter_too_much, HealthCheck.too_slow]
 )
 @given(mixed_programs())
-def test_cuts_hold_and_are_proved(case) -> None:
+def test_cuts_hold_and_are_proved(case: Case) -> None:
     """Of any combination of the rows, at any point that is to be cut off."""
     p, uppers, x, combination = case
     substitutions = Substitutions(p, x)

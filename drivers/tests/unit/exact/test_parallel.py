@@ -27,9 +27,10 @@ from bridge_drivers.exact.clp import library
 from bridge_drivers.exact.evidence import AnswerClaim
 from bridge_drivers.exact.node import DOWN, UP, Branch, OpenNode, ProvedSubtree
 from bridge_drivers.exact.parallel import ParallelSearch
-from bridge_drivers.exact.portfolio import PLAIN, Portfolio
-from bridge_drivers.exact.search import ImprovedIncumbent, no_point
+from bridge_drivers.exact.portfolio import Portfolio
+from bridge_drivers.exact.search import no_point
 from bridge_drivers.exact.search_deadline import SearchDeadline
+from bridge_drivers.exact.strategies import PLAIN
 from bridge_drivers.exact.tree import Leaf, Split, Tree, node_count, with_remote
 from bridge_drivers.exact.worker_pools import (
     ProcessPool,
@@ -39,7 +40,7 @@ from bridge_drivers.exact.worker_pools import (
     WorkUnit,
     open_pool,
 )
-from bridge_drivers.model.integer_form import IntegerProgram
+from bridge_drivers.model.integer_form import IntegerProgram, Point
 from bridge_drivers.system.errors import SearchEnded, SearchPaused
 from integer_programs import KNAPSACKS, PIGEONS, boxed_programs, optimum_of
 from judging import Judge, certified
@@ -98,6 +99,8 @@ def searched(p: IntegerProgram, pool: WorkerPool, value: Fraction) -> Portfolio:
     assert portfolio.resume(strategy, LONG) is None
     assert strategy.tree is not None, strategy.report
     assert is_bound(p, value, strategy.tree.lines())
+    search = strategy.search
+    assert search.search.nodes == node_count(search.proved[""].tree)  # without what fell away
     return portfolio
 
 
@@ -139,12 +142,17 @@ def test_a_pause_has_a_bound() -> None:
 
 
 def test_a_better_point_comes_through() -> None:
-    value = minimised_optimum(KNAPSACKS)
+    """And the search goes on where it stands, for its value."""
+    value, better = minimised_optimum(KNAPSACKS), list[Point]()
     portfolio = Portfolio(KNAPSACKS, value + 3, no_point, SearchDeadline(LONG), pool=PoolHere(2))
+    portfolio.on_improved = better.append
     with small_units(0):
-        improved = portfolio.resume(portfolio.begin(PLAIN), LONG)
-    assert isinstance(improved, ImprovedIncumbent)
-    assert KNAPSACKS.is_feasible(improved.point) and value <= improved.value < value + 3
+        assert portfolio.resume(portfolio.begin(PLAIN), LONG) is None
+    assert better and all(map(KNAPSACKS.is_feasible, better))
+    values = list(map(KNAPSACKS.value, better))
+    assert values == sorted(set(values), reverse=True) and values[-1] == value
+    assert portfolio.objective.value == value and portfolio.best is not None
+    assert is_bound(KNAPSACKS, value, portfolio.best.lines())
 
 
 def test_a_refutation_by_units() -> None:
@@ -194,6 +202,43 @@ def test_no_processes() -> None:
     ):
         searched(KNAPSACKS, pool, minimised_optimum(KNAPSACKS))
     assert "no more processes" in pool.fault
+
+
+class Unreachable(Executor):
+    """Takes no unit."""
+
+    def submit(self, *args: object, **keywords: object) -> Future[object]:  # type: ignore[override]
+        raise ConnectionError("the scheduler is gone")
+
+
+def test_a_pool_that_takes_nothing() -> None:
+    """Of whatever error an executor raises the search hears that the pool failed."""
+    pool = WorkerPool(2)
+    pool._started = Unreachable()
+    with mock.patch.object(parallel, "NODES_BEFORE_PARALLEL", 3):
+        searched(KNAPSACKS, pool, minimised_optimum(KNAPSACKS))
+    assert "the scheduler is gone" in pool.fault
+
+
+def test_pseudocosts_of_all_units_count() -> None:
+    """Also of units that were worked at once, each of which knows nothing of the other."""
+    search = parallel_search()
+    search.search.branching.pseudocosts.learn(9, UP, 5.0, 0.5)
+    search.waiting[0].open_nodes = split_nodes([4])
+    search._split_subtree(search.waiting[0])
+    given = search.search.branching.pseudocosts
+    for column in (1, 2):
+        unit = given.copy()
+        unit.learn(column, DOWN, 3.0, 0.5)
+        unit.learn(9, UP, 1.0, 0.5)
+        subtree = search.waiting.pop()
+        future: Future[UnitResult] = Future()
+        future.set_result(UnitResult(None, [], unit.less(given), 2))
+        search.running[future] = subtree
+    search._collect()
+    known = search.search.branching.pseudocosts
+    assert known.gains[DOWN] == {1: (6.0, 1), 2: (6.0, 1)}
+    assert known.gains[UP] == {9: (14.0, 3)}
 
 
 class Broken(WorkerPool):
@@ -257,6 +302,27 @@ def test_a_branch_that_is_not_needed_falls_away(depths: set[int]) -> None:
     else:
         assert search.proved[""].tree == [LEAF] and sibling.is_dropped
     assert search.proved_share() == 1.0
+
+
+@pytest.mark.parametrize("depths", [set(), {0}])
+@pytest.mark.parametrize("sibling_depths", [set(), {0}])
+def test_nodes_that_fall_away_do_not_count(depths: set[int], sibling_depths: set[int]) -> None:
+    """What is open of a sibling does not, nor a proof that its sibling makes needless."""
+    search = parallel_search()
+    sibling_proof = ProvedSubtree([Split(6, 0), LEAF, LEAF], frozenset({1}))
+    search.waiting[0].open_nodes = split_nodes([4])
+    search._split_subtree(search.waiting[0])
+    sibling = search.waiting[1]
+    sibling.open_nodes = [OpenNode(Branch(5, 0, DOWN, 0.5, 0.0, b""), sibling_proof)]
+    search.search.nodes = 1 + 1 + 3 + 1  # two branching nodes, what is proved of the sibling, LEAF
+    search._close("0", ProvedSubtree([LEAF], frozenset(depths)))
+    assert search.search.nodes == (6 if depths else 1)
+    if depths:
+        search.waiting.remove(sibling)
+        sibling_tree: Tree = [Split(5, 0), LEAF, *sibling_proof.tree]
+        search.search.nodes += 1
+        search._close("1", ProvedSubtree(sibling_tree, frozenset(sibling_depths)))
+        assert search.search.nodes == node_count(search.proved[""].tree)
 
 
 def test_trees_that_stay_here() -> None:

@@ -3,7 +3,7 @@
 from __future__ import annotations
 
 from fractions import Fraction
-from typing import List, Tuple
+from typing import List, Optional, Tuple, Union
 
 import pytest
 from hypothesis import assume, given
@@ -55,7 +55,9 @@ def mixed() -> IntegerProgram:
         (0, 10, 6, 10),
     ],
 )
-def test_the_nearest_bound(lower, upper, value, nearest) -> None:
+def test_the_nearest_bound(
+    lower: Optional[int], upper: Optional[int], value: float, nearest: Optional[int]
+) -> None:
     assert nearest_bound(lower, upper, value) == nearest
 
 
@@ -67,7 +69,7 @@ def test_the_nearest_bound(lower, upper, value, nearest) -> None:
         ([5.0, 1.0, 0.0], None),
     ],
 )
-def test_points_near_doubles(x, point) -> None:
+def test_points_near_doubles(x: List[Union[float, F]], point: Optional[List[F]]) -> None:
     assert next(nearby_points(mixed(), x), None) == point
 
 
@@ -115,7 +117,9 @@ def test_the_vertex_of_an_optimal_basis_is_optimal(p: IntegerProgram) -> None:
 
 @NEEDS_CLP
 @given(bounded_programs(), st.data())
-def test_points_with_integers_keep_them_and_are_the_best(p: IntegerProgram, data) -> None:
+def test_points_with_integers_keep_them_and_are_the_best(
+    p: IntegerProgram, data: st.DataObject
+) -> None:
     x: List[float] = [0.0] * p.n
     for j, upper in enumerate(p.upper):
         assert upper is not None

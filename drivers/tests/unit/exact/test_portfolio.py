@@ -8,29 +8,42 @@ from types import SimpleNamespace
 from typing import Optional
 
 import pytest
+from hypothesis import given, settings
 
 from bridge_drivers.exact import portfolio as portfolio_module
 from bridge_drivers.exact.clp import library
-from bridge_drivers.exact.cuts import CutKind
+from bridge_drivers.exact.cuts import CutKind, ObjectiveCutoff
 from bridge_drivers.exact.fathoming import Cutoff
 from bridge_drivers.exact.parallel import ParallelSearch
-from bridge_drivers.exact.portfolio import PLAIN, TURN_SECONDS, Portfolio, Strategy
-from bridge_drivers.exact.search import ImprovedIncumbent, no_point
-from bridge_drivers.exact.search_deadline import SearchDeadline
+from bridge_drivers.exact.node import Branch
+from bridge_drivers.exact.portfolio import TURN_SECONDS, Portfolio
+from bridge_drivers.exact.search import (
+    BranchAndBound,
+    ImprovedIncumbent,
+    NodeNotClosed,
+    no_point,
+)
+from bridge_drivers.exact.search_deadline import SearchDeadline, SearchProgress
+from bridge_drivers.exact.strategies import MIR, PLAIN, Preparation, Strategy
 from bridge_drivers.exact.tree import Tree
-from bridge_drivers.model.integer_form import IntegerProgram
+from bridge_drivers.model.integer_form import IntegerProgram, Point
 from bridge_drivers.system.errors import NodeLimit, SearchEnded
-from integer_programs import COVER, KNAPSACK, KNAPSACKS, LOTS, PIGEONS, optimum_of
+from integer_programs import COVER, KNAPSACK, KNAPSACKS, LOTS, PIGEONS, boxed_programs, optimum_of
+from integer_programs import points_of
 from judging import Judge
 from programs import Column, Row, program
 
 NEEDS_CLP = pytest.mark.skipif(library() is None, reason="CLP's library is not there")
 
 
+def strategy_with(search: object, name: str = "", spent: float = 0.0) -> Strategy:
+    objective = ObjectiveCutoff(KNAPSACK, Fraction(-17), None)
+    return Strategy(name, [], [], search, objective, spent)  # type: ignore[arg-type]
+
+
 def strategy_of(share: float, spent: float) -> Strategy:
     """One whose tree is proved to that share."""
-    search = SimpleNamespace(proved_share=lambda: share)
-    return Strategy("", [], search, spent)  # type: ignore[arg-type]
+    return strategy_with(SimpleNamespace(proved_share=lambda: share), spent=spent)
 
 
 class After(SearchDeadline):
@@ -92,13 +105,13 @@ class Scripted:
 
 def test_what_is_paused_goes_on() -> None:
     """And what failed, or has its tree, does not."""
-    portfolio = Portfolio(KNAPSACK, Fraction(-17), no_point, SearchDeadline())
+    portfolio = Portfolio(KNAPSACK.without_costs(), None, no_point, SearchDeadline())
     found = ImprovedIncumbent([Fraction(1)] * 3, Fraction(-29))
-    paused = Strategy(PLAIN, [], Scripted(NodeLimit(3), found))  # type: ignore[arg-type]
+    paused = strategy_with(Scripted(NodeLimit(3), found), PLAIN)
     assert portfolio.resume(paused, 1.0) is None
     assert not paused.has_ended and paused.report == "plain: more than 3 nodes"
     assert portfolio.resume(paused, 1.0) is found
-    failed = Strategy(PLAIN, [], Scripted(SearchEnded("a leaf does not close")))  # type: ignore[arg-type]
+    failed = strategy_with(Scripted(SearchEnded("a leaf does not close")), PLAIN)
     assert portfolio.resume(failed, 1.0) is None and failed.has_ended
     assert portfolio.resume(failed, 1.0) is None
 
@@ -116,6 +129,104 @@ def test_races(p: IntegerProgram, shortens: bool, monkeypatch: pytest.MonkeyPatc
     assert portfolio.best.size == min(tree.size for tree in trees)
     assert is_bound(p, value, portfolio.best.lines())
     assert len(portfolio.reports()) >= 1
+
+
+def feasible_value(p: IntegerProgram) -> Fraction:
+    """The worst value of a point, minimised."""
+    return max(p.value(point) for point in points_of(p))
+
+
+@NEEDS_CLP
+@given(boxed_programs())
+@settings(max_examples=20)
+def test_better_points(p: IntegerProgram) -> None:
+    """Strategies go on where they stand; the tree that is told is for the best of them."""
+    if optimum_of(p) is None:
+        return
+    value, better = minimised_optimum(p), list[Point]()
+    worst = feasible_value(p)
+    portfolio = Portfolio(p, worst, no_point, SearchDeadline(60.0))
+    portfolio.on_improved = better.append
+    assert portfolio.race() is None and portfolio.best is not None
+    assert portfolio.objective.value == value
+    assert [p.value(point) for point in better[-1:]] == ([value] if value < worst else [])
+    assert is_bound(p, value, portfolio.best.lines())
+
+
+@NEEDS_CLP
+def test_a_tree_for_worse_values_is_searched_once_more() -> None:
+    """And the shorter of both texts is told."""
+    worst = feasible_value(KNAPSACKS)
+    portfolio = Portfolio(KNAPSACKS, worst, no_point, SearchDeadline(60.0))
+    portfolio.run_plain()
+    trees = [strategy.tree for strategy in portfolio.strategies if strategy.tree is not None]
+    assert len(trees) == 2 and portfolio.best is not None
+    assert portfolio.best.size == min(tree.size for tree in trees)
+    assert is_bound(KNAPSACKS, minimised_optimum(KNAPSACKS), portfolio.best.lines())
+
+
+@NEEDS_CLP
+def test_a_node_that_does_not_close(monkeypatch: pytest.MonkeyPatch) -> None:
+    """All else is searched without it; then a bound that is a little worse is proved."""
+    value, failed = Fraction(143, 10), list[int]()
+    solve_node = BranchAndBound.solve_node
+
+    def failing(search: BranchAndBound, branch: Optional[Branch]) -> object:
+        if search.cutoff.value == value and search.node.depth == 2 and not failed:
+            failed.append(id(search))
+        if failed and search.cutoff.value == value and search.node.depth == 2:
+            raise NodeNotClosed("a leaf does not close")
+        return solve_node(search, branch)
+
+    monkeypatch.setattr(BranchAndBound, "solve_node", failing)
+    portfolio = Portfolio(LOTS, value, no_point, SearchDeadline(60.0))
+    assert portfolio.race() is None and portfolio.best is None and portfolio.bound is not None
+    assert failed and value * (1 - Fraction(1, 10**9)) <= portfolio.bound.value < value
+    found = portfolio.prove_bound()
+    assert found is not None and is_bound(LOTS, found.value, found.tree.lines())
+
+
+@NEEDS_CLP
+def test_a_node_that_never_closes(monkeypatch: pytest.MonkeyPatch) -> None:
+    """The strategy ends, after all bounds that are tried, and says why."""
+
+    def failing(search: BranchAndBound, branch: Optional[Branch]) -> object:
+        raise NodeNotClosed("a leaf does not close")
+
+    monkeypatch.setattr(BranchAndBound, "solve_node", failing)
+    portfolio = Portfolio(LOTS, Fraction(143, 10), no_point, SearchDeadline(60.0))
+    assert portfolio.run_plain() is None
+    assert portfolio.best is None and portfolio.bound is None
+    assert portfolio.strategies[0].has_ended
+    assert portfolio.reports() == ["plain: a leaf does not close"]
+
+
+def test_time_for_cuts() -> None:
+    """A share of all seconds, whatever others took; twice as much at a time where it was in vain."""
+    portfolio = after_ten_seconds()
+    share = 10.0 * portfolio_module.CUTS_SHARE
+    assert portfolio.time_for_cuts() == share
+    portfolio.preparation.seconds = share - 0.1
+    assert portfolio.time_for_cuts() == -math.inf
+    portfolio.preparation.seconds = share - 0.5
+    assert portfolio.time_for_cuts() == pytest.approx(0.5)
+    portfolio.preparation.add([], 0.0)
+    assert portfolio.time_for_cuts() == pytest.approx(0.5)
+    portfolio.preparation.add([], 0.0)
+    assert portfolio.time_for_cuts() == -math.inf
+    portfolio.preparation.names[:] = ["thin"]
+    assert portfolio.time_for_cuts() == -math.inf
+
+
+def test_vain_attempts() -> None:
+    """Of MIR cuts alone one ends their making; what closes more of the gap begins a new count."""
+    preparation = Preparation([MIR, "clique"])
+    preparation.add([], 0.5)
+    assert not preparation.is_in_vain()
+    preparation.add([], 0.505)
+    assert preparation.is_in_vain()
+    preparation.names.pop(0)
+    assert not preparation.is_in_vain()
 
 
 @NEEDS_CLP
@@ -198,3 +309,41 @@ def test_a_bound_that_does_not_close_is_lowered(monkeypatch: pytest.MonkeyPatch)
     found = portfolio.prove_bound()
     assert found is not None and is_bound(LOTS, found.value, found.tree.lines())
     assert len(tried) > 1 and sorted(tried, reverse=True) == tried
+
+
+@NEEDS_CLP
+@pytest.mark.parametrize("kind", [KNAPSACK, COVER])
+def test_progress_never_goes_back(kind: IntegerProgram, monkeypatch: pytest.MonkeyPatch) -> None:
+    """Whose turn it is, is not seen: nodes and what is closed grow, and a forecast is a time."""
+    monkeypatch.setattr(SearchDeadline, "is_progress_due", lambda deadline: True)
+    deadline = SearchDeadline(60.0)
+    told: "list[SearchProgress]" = []
+    deadline.on_progress = told.append
+    portfolio = Portfolio(kind, optimum_of(kind), no_point, deadline)
+    portfolio.race()
+    assert portfolio.best is not None
+    states = [progress.numbers for progress in told if "closed" in progress.numbers]
+    for before, after in zip(states, states[1:]):
+        assert before["nodes"] <= after["nodes"] and before["closed"] <= after["closed"]
+    for state in states:
+        assert 0 <= state["closed"] <= 1 and state["open"] >= 0
+        assert ("left" in state) == (state["closed"] > 0)
+        assert state.get("left", 0.0) >= 0
+
+
+def test_progress_is_that_of_all_strategies() -> None:
+    """Nodes of both, and the forecast of the one that is further: 0.2 closed in 5 s leave 20 s."""
+    portfolio = after_ten_seconds()
+    told: "list[SearchProgress]" = []
+    portfolio.deadline.on_progress = told.append
+    for nodes, share, bound, spent in ((7, 0.1, -20.0, 8.0), (30, 0.2, -19.0, 5.0)):
+        search = SimpleNamespace(
+            search=SimpleNamespace(nodes=nodes),
+            proved_share=lambda share=share: share,
+            open_count=lambda nodes=nodes: nodes // 2,
+            dual_bound=bound,
+        )
+        portfolio.strategies.append(strategy_with(search, spent=spent))
+    portfolio.tell_progress()
+    known = {"nodes": 37.0, "open": 15.0, "closed": 0.2, "bound": 19.0, "left": 20.0}
+    assert [dict(progress.numbers) for progress in told] == [pytest.approx(known)]

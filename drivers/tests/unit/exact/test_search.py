@@ -5,7 +5,7 @@ from __future__ import annotations
 import contextlib
 import itertools
 from fractions import Fraction
-from typing import Optional, Set
+from typing import Callable, Optional, Sequence, Set, Union
 from unittest import mock
 
 import pytest
@@ -14,18 +14,21 @@ from hypothesis import strategies as st
 
 from bridge_drivers.exact import search as search_module
 from bridge_drivers.exact.clp import library
-from bridge_drivers.exact.fathoming import Cutoff
+from bridge_drivers.exact.fathoming import Cutoff, Fathomer
 from bridge_drivers.exact.node import DOWN, UP, Branch, Node, OpenNode, ProvedSubtree, join
 from bridge_drivers.exact.node import least_open_bound
-from bridge_drivers.exact.portfolio import PLAIN, Portfolio
+from bridge_drivers.exact.points import point_with_integers
+from bridge_drivers.exact.portfolio import Portfolio
 from bridge_drivers.exact.search import BranchAndBound, ImprovedIncumbent, no_point
 from bridge_drivers.exact.search_deadline import SearchDeadline
 from bridge_drivers.exact.work_limit import limit_work
 from bridge_drivers.exact.tree import EmptyDomain, Leaf, Split, Tree, node_count
-from bridge_drivers.model.integer_form import IntegerProgram
+from bridge_drivers.exact.strategies import PLAIN
+from bridge_drivers.model.integer_form import IntegerProgram, Point
 from bridge_drivers.system.deadline import Deadline
 from bridge_drivers.system.errors import NodeLimit, SearchEnded, TimeOver
-from integer_programs import COVER, EQUATION, KNAPSACK, KNAPSACKS, boxed_programs, optimum_of
+from integer_programs import COVER, EQUATION, KNAPSACK, KNAPSACKS, boxed_programs, mixed_programs
+from integer_programs import optimum_of
 from judging import Judge
 
 pytestmark = pytest.mark.skipif(library() is None, reason="CLP's library is not there")
@@ -163,6 +166,41 @@ def test_time_that_is_over_anywhere(p: IntegerProgram) -> None:
         if found is not None:
             assert is_bound(p, found.value, found.tree.lines())
     assert last > 0
+
+
+@given(st.one_of(boxed_programs(), mixed_programs()))
+@settings(max_examples=25)
+def test_leaves_in_fractions_alone(p: IntegerProgram) -> None:
+    """Where doubles show nothing of a node whose integer columns are fixed, fractions do."""
+    with mock.patch.multiple(
+        Fathomer,
+        by_row=lambda self: None,
+        by_phase_one=lambda self, least=0.0: None,
+        by_farkas=lambda self: None,
+    ):
+        search = BranchAndBound(p, Cutoff(None), SearchDeadline(60.0), vertex_near(p))
+        found = without_pause(search)
+    usual = without_pause(BranchAndBound(p, Cutoff(None), SearchDeadline(60.0), vertex_near(p)))
+    if found is None or usual is None:
+        return
+    assert isinstance(found, ImprovedIncumbent) == isinstance(usual, ImprovedIncumbent)
+    if isinstance(found, ImprovedIncumbent):
+        assert p.is_feasible(found.point)
+    else:
+        assert is_well_formed(found.tree)
+
+
+def without_pause(search: BranchAndBound) -> Union[ProvedSubtree, ImprovedIncumbent, None]:
+    """What a search finds; None where it has no end."""
+    search.most_nodes = 2000
+    try:
+        return search.run()
+    except SearchEnded:
+        return None
+
+
+def vertex_near(p: IntegerProgram) -> Callable[[Sequence[float]], Optional[Point]]:
+    return lambda x: point_with_integers(p, x, Deadline(9.0))
 
 
 def test_limits(monkeypatch: pytest.MonkeyPatch) -> None:

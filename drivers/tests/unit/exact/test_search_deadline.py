@@ -3,11 +3,14 @@
 from __future__ import annotations
 
 import math
+import time
 from unittest import mock
 
 import pytest
 
 from bridge_drivers.exact import work_limit
+from bridge_drivers.exact.certifier import limit_all_work
+from bridge_drivers.exact.clp import Clp
 from bridge_drivers.exact.search_deadline import SearchDeadline, SearchProgress
 from bridge_drivers.exact.work_limit import check_work, limit_work
 from bridge_drivers.system.deadline import Deadline
@@ -19,20 +22,21 @@ from bridge_drivers.system.errors import SearchEnded, SearchPaused, TimeOver
 @pytest.mark.parametrize("of_processor", [False, True])
 def test_verdicts_never_go_past_the_end(seconds: float, more: float, of_processor: bool) -> None:
     """Which is a tenth of the limit and five seconds after it; a restart does not put it off."""
+    all_within = seconds * 1.1 + 5 if of_processor else None
     with mock.patch("time.monotonic", lambda: 100.0):
-        deadline = SearchDeadline(seconds, of_processor=of_processor)
+        deadline = SearchDeadline(seconds, of_processor=of_processor, all_within=all_within)
     deadline.restart()
     with mock.patch.object(deadline._all, "_clock", lambda: 100.0 + more):
         left = seconds * 1.1 + 5 - more
         assert deadline.left_to_judge() == pytest.approx(max(left, 0.1))
-        assert deadline.left_to_find() <= left
+        assert deadline.to_find().left() <= left
         with deadline.judging(0.75):
             assert deadline.left_to_judge() == pytest.approx(max(left * 0.75, 0.1))
 
 
 def test_without_a_limit() -> None:
     deadline = SearchDeadline()
-    assert deadline.left_to_judge() is None and deadline.left_to_find() == math.inf
+    assert deadline.left_to_judge() is None and deadline.to_find().left() == math.inf
     deadline.check_search(10**9, math.inf)
 
 
@@ -47,8 +51,29 @@ def test_a_search_pauses_and_ends() -> None:
             deadline.check_search(3, 60.0)
         assert deadline.why("time") == "interrupted"
         assert work_limit._deadline.get().left() <= 1.0
+        assert Clp.deadline_of_all.left() <= 1.0
     finally:
-        limit_work(Deadline())
+        limit_all_work(Deadline())
+
+
+def test_a_limit_of_the_processor_alone() -> None:
+    """Where none of the wall is asked for, only seconds of the processor count: on a machine that
+    gives a twentieth of them, all is as on one of its own."""
+    deadline = SearchDeadline(1.0, of_processor=True)
+    wall, spent = time.monotonic(), time.process_time()
+    with mock.patch.object(deadline._all, "_clock", lambda: wall + 20.0):
+        assert deadline.left_to_judge() == pytest.approx(6.1 * 25 - 20, abs=0.5)
+        assert deadline.to_find().of_processor
+        assert deadline.to_find().left() == pytest.approx(3.6, abs=0.5)
+        deadline.check_search(0, 1.0)
+    deadline.count_elsewhere(1.5)
+    with pytest.raises(SearchPaused):
+        deadline.check_search(0, math.inf)
+    assert deadline.to_find_at_last().left() == pytest.approx(2.1, abs=0.5)
+    assert deadline.spent() >= 1.5 and time.process_time() - spent < 0.5
+    by_wall = SearchDeadline(60.0)
+    by_wall.count_elsewhere(50.0)
+    assert by_wall.spent() < 50.0
 
 
 def test_exact_work_ends() -> None:

@@ -12,7 +12,7 @@ from timing import assert_linear
 
 @pytest.fixture
 def stub(tmp_path: Path) -> str:
-    (tmp_path / "m.row").write_bytes(b"Cap\r\n\n  Flow \nCost\n")
+    (tmp_path / "m.row").write_bytes(b"Cap\r\n  Flow \nCost\n")
     (tmp_path / "m.col").write_bytes(b"Buy\nSell\x1b[0m\n")
     return str(tmp_path / "m")
 

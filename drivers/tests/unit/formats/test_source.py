@@ -10,14 +10,15 @@ import os
 import subprocess
 import sys
 from pathlib import Path
-from typing import Callable
+from typing import Callable, Iterator
 
 import pytest
 
 from bridge_drivers.system.codes import ExitStatus
-from bridge_drivers.system.errors import Damaged, NoModel, TooLarge
+from bridge_drivers.system.errors import Damaged, FileFault, NoModel, TooLarge
 from bridge_drivers.formats.source import (
     Limits,
+    Source,
     Workspace,
     read_model,
     read_source,
@@ -30,7 +31,7 @@ Pack = Callable[[bytes], bytes]
 
 
 @pytest.fixture
-def workspace():
+def workspace() -> Iterator[Workspace]:
     with Workspace() as made:
         yield made
     assert not (made.folder and os.path.exists(made.folder))
@@ -56,36 +57,78 @@ def test_packed_models(
     assert source.notes == (f"what is judged is the text that {path.name} unpacks to",)
 
 
-def test_a_plain_file_stays_in_its_place(tmp_path: Path, workspace: Workspace) -> None:
+def test_a_plain_file_is_copied(tmp_path: Path, workspace: Workspace) -> None:
     path = tmp_path / "m.nl"
     path.write_bytes(NL)
     source = read_model(str(tmp_path / "m"), workspace)
-    assert (source.path, source.notes) == (str(path), ())
-    assert workspace.folder == ""
+    assert Path(source.path).read_bytes() == NL
+    assert source.path.startswith(workspace.folder)
+    assert (source.reads, source.notes) == ((str(path), source.path), ())
     assert source.sha256() == sum_of(NL)
 
 
-def test_a_file_that_is_replaced_has_no_sum(tmp_path: Path, workspace: Workspace) -> None:
-    """Rather than that of another text than was judged."""
-    path = tmp_path / "m.nl"
-    path.write_bytes(NL)
-    source = read_model(str(path), workspace)
-    other = tmp_path / "other"
+def rewritten(path: Path) -> None:
+    path.write_bytes(NL + b"\n")
+
+
+def replaced(path: Path) -> None:
+    other = path.with_suffix(".other")
     other.write_bytes(NL + b"\n")
     os.replace(other, path)
-    assert not source.is_unchanged()
-    assert source.sha256() is None
 
 
-def test_a_file_that_is_replaced_by_a_pipe_is_not_opened(
-    tmp_path: Path, workspace: Workspace
-) -> None:
-    path = tmp_path / "m.nl"
-    path.write_bytes(NL)
-    source = read_model(str(path), workspace)
+def made_a_pipe(path: Path) -> None:
     path.unlink()
     os.mkfifo(path)
-    assert source.sha256() is None
+
+
+@pytest.mark.parametrize("change", [rewritten, replaced, made_a_pipe, Path.unlink])
+@pytest.mark.parametrize("pack", [bytes, gzip.compress], ids=["plain", "packed"])
+def test_what_comes_later_changes_nothing(
+    tmp_path: Path, workspace: Workspace, change: Callable[[Path], None], pack: Pack
+) -> None:
+    """The text and its sum are those of the bytes that were read."""
+    path = tmp_path / "m.nl"
+    path.write_bytes(pack(NL))
+    source = read_model(str(path), workspace)
+    change(path)
+    assert Path(source.path).read_bytes() == NL
+    assert source.sha256() == sum_of(NL)
+
+
+@pytest.mark.parametrize("read", [read_model, read_source])
+def test_a_pipe_to_which_nobody_writes(
+    tmp_path: Path, workspace: Workspace, read: Callable[..., Source]
+) -> None:
+    os.mkfifo(tmp_path / "m.nl")
+    with pytest.raises(FileFault, match="m.nl: it is a named pipe, and nobody wrote to it"):
+        read(str(tmp_path / "m.nl"), workspace, Limits(writer_seconds=0.05))
+
+
+def test_a_pipe_gives_nothing_twice(tmp_path: Path, workspace: Workspace) -> None:
+    fifo = tmp_path / "m.nl"
+    os.mkfifo(fifo)
+    with subprocess.Popen(["sh", "-c", f"echo text >{fifo}"]):
+        read_source(str(fifo), workspace)
+    with pytest.raises(FileFault, match="it was read already"):
+        read_source(str(fifo), workspace)
+
+
+@pytest.mark.parametrize("name", ["a\0b", "\ud800.nl", "\0"])
+@pytest.mark.parametrize("read", [read_model, read_source])
+def test_what_is_no_path(workspace: Workspace, read: Callable[..., Source], name: str) -> None:
+    with pytest.raises(FileFault, match="it is no path of this system"):
+        read(name, workspace)
+
+
+def test_a_plain_file_has_a_limit(tmp_path: Path, workspace: Workspace) -> None:
+    """Nothing of it is copied."""
+    path = tmp_path / "m.nl"
+    with open(path, "wb") as file:
+        file.truncate(2**31 + 1)
+    with pytest.raises(TooLarge):
+        read_model(str(path), workspace)
+    assert workspace.folder == ""
 
 
 @pytest.mark.parametrize("pack", [bytes, gzip.compress], ids=["plain", "packed"])

@@ -50,6 +50,53 @@ LINES = [
         "*    10: obj =   2.000000000e+00 inf =   0.000e+00 (2)",
         {"iterations": 10, "objective": 2},
     ),
+    ("cbc", "max", "Cbc0038I Solution found of -1874", {"incumbent": 1874}),
+    (
+        "cbc",
+        "max",
+        "Cbc0038I Rounding solution of -1918 is better than previous of -1874",
+        {"incumbent": 1918},
+    ),
+    (
+        "cbc",
+        "max",
+        "Cbc0013I At root node, 3 cuts changed objective from -20 to -19.5 in 10 passes",
+        {"bound": 19.5},
+    ),
+    ("cbc", "max", "Continuous objective value is 1953.38 - 0.00 seconds", {"bound": 1953.38}),
+    ("glpsol", "max", "Solution found by heuristic: 1866", {"incumbent": 1866}),
+    (
+        "highs",
+        "max",
+        " L       0       3         0   0.00%   -1951.62        -1941              0.55%      354"
+        "     14      4        57     0.8s",
+        {"nodes": 0, "open": 3, "bound": 1951.62, "incumbent": 1941},
+    ),
+    (
+        "highs",
+        "min",
+        "         0       0         0   0.00%   3562           inf                  inf        0"
+        "      0      0         0     0.0s",
+        {"nodes": 0, "open": 0, "bound": 3562},
+    ),
+    (
+        "highs",
+        "min",
+        "          7     4.4000000000e+00 Pr: 0(0) 0s",
+        {"iterations": 7, "objective": 4.4},
+    ),
+    (
+        "lp_solve",
+        "max",
+        "Improved solution               1868 after        255 iter,        95 nodes (gap 4.4%)",
+        {"incumbent": 1868, "iterations": 255, "nodes": 95},
+    ),
+    (
+        "lp_solve",
+        "max",
+        "Relaxed solution       1953.38116824 after         99 iter is B&B base.",
+        {"bound": 1953.38116824},
+    ),
     ("lp_solve", "min", "Set parameter", {}),
 ]
 

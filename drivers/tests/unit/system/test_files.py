@@ -2,7 +2,10 @@
 
 from __future__ import annotations
 
+import bz2
 import errno
+import gzip
+import lzma
 import os
 import subprocess
 import sys
@@ -11,7 +14,7 @@ from typing import Callable, Iterator
 from unittest import mock
 
 import pytest
-from bridge_drivers.formats.file_kinds import model_kind_of_start
+from bridge_drivers.formats.file_kinds import kind_of_model
 from bridge_drivers.system import files
 from bridge_drivers.system.errors import FileFault, FileStays
 from bridge_drivers.system.files import OutputFiles, WhyItStays
@@ -35,7 +38,7 @@ def mask() -> Iterator[None]:
 
 
 def outputs(*reads: Path, overwrite: bool = False) -> OutputFiles:
-    return OutputFiles([str(path) for path in reads], model_kind_of_start, overwrite=overwrite)
+    return OutputFiles([str(path) for path in reads], kind_of_model, overwrite=overwrite)
 
 
 def why(act: Callable[[], object]) -> WhyItStays:
@@ -93,6 +96,68 @@ def test_a_model_is_not_replaced_by_something_else(
     assert why(lambda: places.write(str(target), data)) is WhyItStays.IS_MODEL
     assert why(lambda: places.remove(str(target))) is WhyItStays.IS_MODEL
     assert target.read_bytes() == model
+
+
+MODELS = {
+    "text": (NL, ""),
+    "binary": (NL.replace(b"g", b"b", 1), ""),
+    "comments": (b"# made by hand\n\n" + NL, ""),
+    "mps": (MPS, ""),
+    "marked": (b"\xef\xbb\xbf" + MPS, ""),
+    "long comments": (b"* by hand\n" * 5000 + MPS, ""),
+    "lp": (b"/* by hand */\n" * 100 + LP, ""),
+    "named mps": (b"what another program wrote", ".mps"),
+    "named lp": (b"Minimize\n x\nEnd\n", ".lp"),
+    "ampl": (b"var x;\n", ".mod"),
+    "data": (b"param n := 3;\n", ".dat"),
+    "minizinc": (b"var int: x;\n", ".mzn"),
+}
+PACKINGS: dict[str, Callable[[bytes], bytes]] = {
+    "": bytes,
+    ".gz": gzip.compress,
+    ".bz2": bz2.compress,
+    ".xz": lzma.compress,
+}
+
+
+@pytest.mark.parametrize("name", MODELS)
+@pytest.mark.parametrize("packed_end", PACKINGS)
+@pytest.mark.parametrize("data", [CERTIFICATE, OLD, b"<svg>", b""])
+@pytest.mark.parametrize("link", [None, os.symlink, os.link])
+def test_no_model_is_ever_lost(
+    tmp_path: Path,
+    name: str,
+    packed_end: str,
+    data: bytes,
+    link: Callable[[Path, Path], None] | None,
+) -> None:
+    """Whatever its form, packing and path, and whatever is to be written there."""
+    text, end = MODELS[name]
+    model = tmp_path / f"model{end}{packed_end}"
+    packed = PACKINGS[packed_end](text)
+    model.write_bytes(packed)
+    target = model
+    if link is not None:
+        target = tmp_path / ("linked" if link is os.symlink else f"linked{end}{packed_end}")
+        link(model, target)
+    places = outputs(overwrite=True)
+    assert why(lambda: places.write(str(target), data)) is WhyItStays.IS_MODEL
+    assert why(lambda: places.remove(str(target))) is WhyItStays.IS_MODEL
+    assert model.read_bytes() == packed
+
+
+@pytest.mark.parametrize("name", ["a\0b", "\ud800"])
+def test_what_is_no_path(name: str) -> None:
+    for act in (lambda: outputs().write(name, NEW), lambda: outputs().remove(name)):
+        with pytest.raises(FileFault, match="it is no path of this system"):
+            act()
+
+
+def test_without_a_folder_for_files_in_between(monkeypatch: pytest.MonkeyPatch) -> None:
+    """It is told as a fault of files, whoever asks for one."""
+    monkeypatch.setattr(files.tempfile, "tempdir", "/nonexistent")
+    with pytest.raises(FileFault, match="TMPDIR|nonexistent"):
+        files.private_folder("x-")
 
 
 @pytest.mark.parametrize(
@@ -267,7 +332,7 @@ def test_standard_output_goes_on_where_it_is(tmp_path: Path, place: str) -> None
     """What was printed stands before, what is printed later behind."""
     code = (
         "from bridge_drivers.system.files import OutputFiles; print('before'); "
-        f"OutputFiles([], lambda start: None).write({place!r}, b'data\\n'); print('behind')"
+        f"OutputFiles([], lambda path, start: None).write({place!r}, b'data\\n'); print('behind')"
     )
     target = tmp_path / "out"
     with open(target, "wb") as out:

@@ -6,6 +6,7 @@ import os
 import signal
 import subprocess
 import sys
+import threading
 import time
 from pathlib import Path
 from typing import Callable, List, Sequence
@@ -342,6 +343,45 @@ def test_it_ends_with_this_process(tmp_path: Path, number: signal.Signals, statu
     wait_until_gone(found)
 
 
+def is_stopped(number: int) -> bool:
+    """Whether a process waits for SIGCONT."""
+    state = Path(f"/proc/{number}/stat").read_text(encoding="latin-1")
+    return state.rpartition(")")[2].split()[0] == "T"
+
+
+def test_a_stop_is_all_of_them(tmp_path: Path) -> None:
+    """Ctrl-Z stops what this process started, and its children; they go on together."""
+    script = f"echo $$ >{tmp_path}/a.pid; sh -c 'echo $$ >{tmp_path}/b.pid; sleep {LONG}'; true"
+    with driver(tmp_path, "no", *shell(script)) as child:
+        found = [child.pid, *numbers_in(tmp_path, 2)]
+        child.send_signal(signal.SIGTSTP)
+        wait_for(lambda: all(map(is_stopped, found)))
+        child.send_signal(signal.SIGCONT)
+        wait_for(lambda: not any(map(is_stopped, found)))
+        child.send_signal(signal.SIGTERM)
+        assert child.wait(PATIENCE) == 143
+    wait_until_gone(found[1:])
+
+
+@pytest.mark.parametrize("stream", ["", ">&2"])
+def test_what_writes_without_end_is_ended(stream: str) -> None:
+    """Where its caller wants no more than it holds, and no time ends it."""
+    limits = OutputLimits(memory_bytes=1 << 16, ends_beyond=True)
+    ended = run(shell(f"yes {stream}"), Deadline(), limits)
+    assert ended.status == -signal.SIGKILL and ended.dropped > 0
+    assert len(ended.output) + len(ended.errors) < 1 << 18
+
+
+@pytest.mark.parametrize("word", ["a\0b", "\ud800"])
+def test_a_word_that_is_none(word: str) -> None:
+    with pytest.raises(OSError):
+        run(["/bin/echo", word], Deadline())
+
+
+def test_the_longest_deadline() -> None:
+    assert run(shell("exit 3"), Deadline(1e300)).status == 3
+
+
 def test_the_first_interrupt_is_the_programs(tmp_path: Path) -> None:
     """It may end in its own way; the second one ends the run."""
     script = f"trap 'exit 9' INT; echo $$ >{tmp_path}/a.pid; while true; do sleep 0.05; done"
@@ -362,3 +402,39 @@ def test_the_second_interrupt_ends_the_run(tmp_path: Path) -> None:
         child.send_signal(signal.SIGINT)
         assert child.wait(PATIENCE) == 130
     wait_until_gone(found)
+
+
+def test_lines_come_as_they_are_written(tmp_path: Path) -> None:
+    """A program of the C library holds its output back where that is a pipe, unless it is told."""
+    fifo, told = tmp_path / "fifo", threading.Event()
+    os.mkfifo(fifo)
+    came = []
+
+    def feed() -> None:
+        """Gives grep a line, and ends its input once that line came back."""
+        with open(fifo, "w", encoding="ascii") as file:
+            file.write("here\n")
+            file.flush()
+            came.append(told.wait(PATIENCE))
+
+    feeder = threading.Thread(target=feed)
+    feeder.start()
+    done = run(
+        ["grep", "here", str(fifo)],
+        Deadline(2 * PATIENCE),
+        on_line=lambda line: told.set(),
+        by_lines=True,
+    )
+    feeder.join()
+    assert (done.output, came) == (b"here\n", [True])
+
+
+def test_a_program_that_is_not_there_is_told_by_lines_too() -> None:
+    with pytest.raises(FileNotFoundError):
+        run(["/nonexistent/grep"], Deadline(PATIENCE), by_lines=True)
+
+
+def test_without_the_library_of_buffers(monkeypatch: pytest.MonkeyPatch) -> None:
+    monkeypatch.setattr(processes, "BUFFER_LIBRARIES", ("/nonexistent",))
+    assert processes.line_buffering() == {}
+    assert run(["echo", "x"], Deadline(PATIENCE), by_lines=True).output == b"x\n"

@@ -18,9 +18,17 @@ from bridge_drivers.system.progress import Progress, gap_percentage, progress_wo
             "incumbent 45, bound 50, gap 10 %, 100 nodes, 12 open",
         ),
         ({"incumbent": 4.0, "bound": float("-inf")}, "incumbent 4"),
-        ({"objective": 1 / 3, "iterations": 7.0}, "objective 0.3333333333, 7 iterations"),
+        ({"objective": 1 / 3, "iterations": 7.0}, "objective 0.33333333, 7 iterations"),
         ({"nodes": 3, "bound": 7.0}, "bound 7, 3 nodes"),
-        ({"cuts": 3, "bound": 7.0}, "3 cuts"),  # no claim yet
+        ({"cuts": 3, "bound": 7.0}, "bound 7, 3 cuts"),
+        (
+            {"nodes": 40.0, "closed": 0.1234, "left": 39.6, "incumbent": 4.0, "bound": 5.0},
+            "incumbent 4, bound 5, gap 20 %, 12.3 % closed, 40 s left, 40 nodes",
+        ),
+        ({"closed": 0.5, "left": 600.0}, "50 % closed, 10 min left"),
+        ({"closed": 0.001, "left": 7200.0}, "0.1 % closed, 2 h left"),
+        ({"closed": 1e-9, "left": 1e9}, "1e-07 % closed"),  # that is no forecast
+        ({"closed": 0.0, "nodes": 1.0}, "1 nodes"),
         ({}, ""),
     ],
 )
@@ -42,5 +50,7 @@ def test_a_stage() -> None:
         assert progress.words() == "cbc, 3 of 60 s, incumbent 17"
         progress.begin("certificate")
         assert progress.words() == "certificate, 0 s"
+        progress.tell_step("exact duals", {"bound": 3.0})
+        assert progress.words() == "certificate, 0 s, bound 3, exact duals"
         progress.tell("exact duals")
         assert progress.words() == "certificate, 0 s, exact duals"
