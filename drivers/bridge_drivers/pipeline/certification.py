@@ -259,7 +259,6 @@ class AnswerCertifier:
         deadline = self._deadline(is_search=proves)
         judge = CertificateJudge(self.bridge, self.model, self.run.path("certificate"), deadline)
         pool = open_pool(settings.processes, settings.cluster, deadline) if proves else None
-        self._known = {}
         self.monitor.stage_begins("certificate", deadline.seconds)
         try:
             with self.monitor.timing("certify"):

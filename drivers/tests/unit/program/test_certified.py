@@ -25,7 +25,7 @@ def sol(line: str, code: int, end: str = "objno 0 {code}\n") -> bytes:
     return (line + middle + end.format(code=code)).encode()
 
 
-@pytest.mark.parametrize("claim", list(Claim), ids=lambda claim: claim.value)
+@pytest.mark.parametrize("claim", list(Claim), ids=[claim.value for claim in Claim])
 def test_each_claim_has_its_code(claim: Claim) -> None:
     """The text is kept as it is; with any other code it is none."""
     text = sol(LINES[claim], CODES[claim])
