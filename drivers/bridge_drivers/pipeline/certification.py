@@ -18,7 +18,7 @@ from ..exact.evidence import NOT_PROVED, AnswerByPlace, AnswerClaim, Evidence, n
 from ..exact.search_deadline import SearchDeadline
 from ..exact.task import SearchOptions
 from ..model.analysis import TOLERANCE_OF_INTEGERS, worst_residual
-from ..model.linear_program import EPIGRAPH_COLUMN
+from ..model.linear_program import EPIGRAPH_COLUMN, EPIGRAPH_ROW
 from ..system.deadline import Deadline
 from ..system.errors import DeadlineExceeded, ProgramFailed, UnsupportedModel
 from ..system.signals import interrupts_to
@@ -347,7 +347,9 @@ class AnswerCertifier:
             Its duals are by the file's constraint.
         """
         try:
-            program, factors = whole_form(self.bridge, self.model, self.program)
+            program, factors = whole_form(
+                self.bridge, self.model, self.program, self.settings.objective
+            )
         except (Refusal, ProgramFailed) as fault:
             return not_proved(fault.text)
         except UnsupportedModel as fault:
@@ -569,10 +571,13 @@ class AnswerCertifier:
     def named_place(self, exported: str) -> str:
         """A row or column by its name in the exported text: c and x with the file's number.
 
-        All other names are told as the objective's row.
+        The column and the row of a nonlinear objective's value are told as the objective's row, and
+        what is no name of the text as it is: `a whole number`.
         """
+        if exported in (EPIGRAPH_COLUMN, EPIGRAPH_ROW):
+            return "the objective's row"
         kind, digits = "row" if exported.startswith("c") else "column", exported[1:]
-        return self.named_part(kind, int(digits)) if digits.isdigit() else "the objective's row"
+        return self.named_part(kind, int(digits)) if digits.isdigit() else exported
 
 
 def is_point(values: Sequence[str], point: Sequence[Fraction] | None) -> bool:

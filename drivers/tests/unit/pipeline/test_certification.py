@@ -45,6 +45,20 @@ def test_lines_of_check(line: str, words: str, tmp_path: Path) -> None:
     assert certifier(tmp_path, "diet").check_words(line) == words
 
 
+@pytest.mark.parametrize(
+    "exported, told",
+    [
+        ("c1", "constraint 1"),
+        ("x0", "variable 0"),
+        ("zdef", "the objective's row"),
+        ("z", "the objective's row"),
+        ("a whole number", "a whole number"),
+    ],
+)
+def test_places(exported: str, told: str, tmp_path: Path) -> None:
+    assert certifier(tmp_path, "diet").named_place(exported) == told
+
+
 def test_a_feasible_point() -> None:
     assert feasible_words(Fraction(17)) == "feasible, objective exactly 17"
     assert feasible_words(Fraction(1, 3)) == "feasible, objective exactly 1/3"
