@@ -24,6 +24,7 @@ from .tree import EmptyDomain, leaf_of
 
 LEAST_INFEASIBILITY = 1e-9  # of phase one, for a contradiction
 SMALLEST_INFEASIBILITY = 1e-14  # the same where nothing else is left to try
+EXACT_DECIMALS = (9, 12, 15, 18)  # of exact multipliers that are rounded
 MOST_ENTRIES_BY_ROW = 10**6  # rows times columns of a program whose single rows are tried
 
 # Of a program, the basic columns and the rows that are not basic of a basis: its duals by row, None
@@ -147,7 +148,9 @@ class Fathomer:
     ) -> Optional[ProvedSubtree]:
         """A leaf by exact multipliers, or by roundings of them, which are shorter.
 
-        Asked for where the node was solved exactly.
+        Asked for where the node was solved exactly. Roundings of doubles come first, and those to
+        many decimals where a certificate cannot hold the exact ones: of multipliers of very
+        different sizes doubles do not have as many.
 
         Args:
             multipliers: By row, minimised.
@@ -156,6 +159,12 @@ class Fathomer:
         proof = self.prover.prove_from_doubles(doubles, kind, self.node.box)
         if proof is None:
             proof = self.prover.prove_from_fractions(multipliers, kind, self.node.box)
+        for places in EXACT_DECIMALS if proof is None else ():
+            unit = Fraction(1, 10**places)
+            rounded = {row: round(v / unit) * unit for row, v in multipliers.items()}
+            proof = self.prover.prove_from_fractions(rounded, kind, self.node.box)
+            if proof is not None:
+                break
         return None if proof is None else self._proved(proof)
 
     def by_phase_one(self, least: float = LEAST_INFEASIBILITY) -> Optional[ProvedSubtree]:

@@ -27,6 +27,8 @@ from .task import CertificationTask
 
 NO_EXACT_POINT = "no exact point has the answer's whole variables"
 ROUNDING = Fraction(1, 10**12)  # of the largest term of a row: as much may be rounding
+# of a bound, or of 1: no answer's value is so much better by rounding
+FAR_BEYOND = Fraction(1, 10**6)
 REPAIR_NODES = 200  # of a search beside an answer
 REPAIR_SHARE = 0.25  # of the seconds that are left, for such a search
 
@@ -207,8 +209,9 @@ class IntegerCertifier:
         """Where no exact point has the answer's integer columns: a refutation, or what is found.
 
         A claim of a point that is worse than the answer does not take the answer's place, unless it
-        is `optimal` or the answer is contradicted. Where nothing takes it, the answer comes back as
-        not proved, with the reason and with `contradicts_answer`.
+        is `optimal` or the answer is contradicted, as it is by a bound that is far beyond its
+        value. Where nothing takes it, the answer comes back as not proved, with the reason and with
+        `contradicts_answer`.
 
         Args:
             x: The answer's values by column.
@@ -216,12 +219,14 @@ class IntegerCertifier:
                 (`points.integer_residual`); up to ROUNDING it may be rounding alone.
         """
         found = first_proved(self._tried_without_point(violation))
-        claimed = found.point
+        claimed, value = found.point, self.program.value([Fraction(v) for v in x])
         is_worse = (
-            claimed is not None
-            and found.claim != "optimal"
-            and self.program.value(claimed) > self.program.value([Fraction(v) for v in x])
+            claimed is not None and found.claim != "optimal" and self.program.value(claimed) > value
         )
+        bound = self.store.bound
+        size = Fraction(1) if bound is None else max(Fraction(1), abs(bound.value))
+        if bound is not None and bound.value - value > FAR_BEYOND * size:
+            self.is_answer_contradicted = True
         if found.is_proved and (self.is_answer_contradicted or not is_worse):
             return found
         reason = NO_EXACT_POINT

@@ -410,7 +410,8 @@ class BranchAndBound:
         by exact multipliers.
 
         What is left is a linear program, whose optimum in fractions is either better than the
-        cutoff, or has duals that reach it.
+        cutoff, or has duals that reach it. It goes on beyond the second at which the search pauses,
+        since it would begin anew else.
 
         Raises:
             NodeNotClosed: It is not solved exactly, or a certificate cannot hold its numbers.
@@ -420,7 +421,7 @@ class BranchAndBound:
         linear = program.with_bounds(self.node.box.lower[:n], self.node.box.upper[:n])
         if self.cutoff.value is None:
             linear = linear.without_costs()
-        check = partial(self.deadline.check_search, self.nodes, self.until)
+        check = partial(self.deadline.check_search, self.nodes, math.inf)
         ended = exact_end(linear, self.node.clp, check, Deadline(self._seconds_of_solve()))
         if ended is None or ended.status is LpStatus.UNBOUNDED:
             raise NodeNotClosed("a leaf does not close")

@@ -33,6 +33,7 @@ from ..formats.numbers import decimal, decimal_or_fraction
 from .answer import Answer
 from .answer_places import answer_by_place, is_point
 from .contradiction import contradiction_words
+from .exact_optimum import ExactOptimum
 from .judge import CertificateJudge
 from .judged_start import judged_start
 from .monitor import Monitor
@@ -376,6 +377,7 @@ class AnswerCertifier:
                 on_progress=self.monitor.tell_search,
                 options=self._search_options(proves=proves),
                 pool=pool,
+                exact_solver=ExactOptimum.of(self.program, factors, judge.deadline),
             )
         if not factors:
             return evidence

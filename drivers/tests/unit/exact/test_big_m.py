@@ -57,6 +57,54 @@ def test_orders_of_any_seed(jobs: int, power: int, seed: int, has_horizon: bool)
     assert found.line == f"optimal {model.optimum}"
 
 
+def chain(length: int, start: int) -> IntegerProgram:
+    """Of x' = 3.7 x - 0.27 all are 1/10 where the first is; what differs grows beyond all bounds."""
+    columns = [Column(-100, 100) for _ in range(length - 1)]
+    columns += [Column(-100, 100, cost=1), Column(0, 9, is_integer=True, cost=1)]
+    links = [Row("-0.27", "-0.27", {k + 1: 1, k: "-3.7"}) for k in range(length - 1)]
+    return program(columns, [*links, Row(0, 0, {start: 10, length: -1})])
+
+
+@NEEDS_CLP
+@pytest.mark.parametrize("start", [0, 3])
+@pytest.mark.parametrize("length", [12, 24, 37])
+def test_chains_that_amplify(length: int, start: int) -> None:
+    """The optimum is 11/10; where its duals are too wide for a certificate, a bound near it."""
+    p = chain(length, start)
+    wrong = AnswerByPlace([0.1] * (length - 1) + [-100.0, 1.0])
+    for claim, answer in (
+        (AnswerClaim.POINT, wrong),
+        (AnswerClaim.INFEASIBLE, AnswerByPlace()),
+    ):
+        found = certified(p, claim, answer=answer)
+        assert found.value == Fraction(11, 10) and found.claim in ("optimal", "within"), found.line
+        if found.claim == "within":
+            gap = Fraction(11, 10) - Fraction(found.line.split()[1])
+            assert 0 < gap <= Fraction(11, 10**10)
+
+
+@NEEDS_CLP
+@pytest.mark.parametrize("power", [12, 15, 18, 19, 20, 21, 24])
+@pytest.mark.parametrize("least, line", [(2, "optimal 4"), (3, "infeasible")])
+def test_rows_of_huge_numbers(power: int, least: int, line: str) -> None:
+    """One of two binary columns, and then nothing is left for the continuous one."""
+    columns = [
+        Column(0, 10, cost=1),
+        Column(0, 1, is_integer=True, cost=4),
+        Column(0, 1, is_integer=True, cost=2),
+    ]
+    big = 10**power
+    rows = [
+        Row(None, big, {0: 1, 1: big, 2: big}),
+        Row(1, None, {1: 1, 2: 1}),
+        Row(least, None, {0: 1, 1: 2, 2: 1}),
+    ]
+    p = program(columns, rows)
+    for values in ([1.0, 0.0, 1.0], [0.0, 1.0, 0.0]):
+        assert certified(p, AnswerClaim.POINT, answer=AnswerByPlace(values)).line == line
+    assert certified(p).line == line
+
+
 def mixed(big: str) -> IntegerProgram:
     columns = [Column(0, 9, cost=1), Column(0, 1, is_integer=True), Column(0, 9, is_integer=True)]
     return program(columns, [Row(None, 5, {0: 1, 1: big}), Row(1, None, {0: "0.5", 2: 7})])
