@@ -30,7 +30,8 @@ from ..system.errors import Interrupted
 from ..system.text import one_line, shortened
 from .answer import Answer
 from ..formats.sol import read_sol
-from .certification import AnswerCertifier, Returned, is_point
+from .answer_places import is_point
+from .certification import AnswerCertifier, Returned
 from .certified_answer import certified_answer
 from .monitor import LOGGER
 from .outcome import CODES_OF_WORDS
