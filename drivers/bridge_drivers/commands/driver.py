@@ -206,11 +206,11 @@ class DriverCommand:
         except Exception as fault:  # a modelling system is told, whatever it was
             if self.options.number("outlev") >= LOG_AND_COMMANDS:
                 self.console.error(traceback.format_exc().rstrip("\n"))
-            error = DriverFault(repr(fault))
+            told = DriverFault(repr(fault))
             if self.has_sol:
-                self.console.error(f"{self.name}: {error}")
-                return error.status
-            return self.failed(error)
+                self.console.error(f"{self.name}: {told}")
+                return told.status
+            return self.failed(told)
 
     def _read_model(self) -> None:
         """Opens the model, and sets `source`.

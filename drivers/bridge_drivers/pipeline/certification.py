@@ -15,7 +15,7 @@ from ..exact.worker_pools import WorkerPool, open_pool
 from ..exact.certificate import lines_of_answer
 from ..exact.certifier import certify
 from ..exact.evidence import NOT_PROVED, AnswerByPlace, AnswerClaim, Evidence, not_proved
-from ..exact.search_deadline import SearchDeadline, SearchProgress
+from ..exact.search_deadline import SearchDeadline
 from ..exact.task import SearchOptions
 from ..model.analysis import TOLERANCE_OF_INTEGERS, worst_residual
 from ..model.linear_program import EPIGRAPH_COLUMN
@@ -136,7 +136,6 @@ class AnswerCertifier:
         self.pool_note = ""
         self.start: Optional[StartPoint] = None
         self.start_note = ""
-        self._known: dict[str, float] = {}
         self.store = CertificateStore(
             bridge,
             model,
@@ -259,10 +258,9 @@ class AnswerCertifier:
         proves = settings.prove and not self.run.is_interrupted
         deadline = self._deadline(is_search=proves)
         judge = CertificateJudge(self.bridge, self.model, self.run.path("certificate"), deadline)
-        seconds = deadline.left()
-        pool = open_pool(settings.processes, settings.cluster, seconds) if proves else None
+        pool = open_pool(settings.processes, settings.cluster, deadline) if proves else None
         self._known = {}
-        self.monitor.progress.begin("certificate", deadline.seconds)
+        self.monitor.stage_begins("certificate", deadline.seconds)
         try:
             with self.monitor.timing("certify"):
                 start = self.certified_start(answer, judge)
@@ -270,7 +268,7 @@ class AnswerCertifier:
                 if start is not None and not evidence.is_proved:
                     evidence = start
         finally:
-            self.monitor.progress.begin("")
+            self.monitor.stage_begins("", 0.0)
             if pool is not None:
                 pool.close()
                 self.pool_note = pool.note
@@ -349,14 +347,6 @@ class AnswerCertifier:
         Returns:
             Its duals are by the file's constraint.
         """
-        settings = self.settings.certificate
-        options = SearchOptions(
-            objective=self.settings.objective,
-            proves=proves,
-            is_relaxation=self.is_relaxed,
-            wants_bound=settings.bound,
-            shortens=settings.shorten,
-        )
         try:
             program, factors = whole_form(self.bridge, self.model, self.program)
         except (Refusal, ProgramFailed) as fault:
@@ -379,8 +369,8 @@ class AnswerCertifier:
                 claim=claim,
                 answer=given,
                 deadline=judge.deadline,
-                on_progress=self._tell,
-                options=options,
+                on_progress=self.monitor.tell_search,
+                options=self._search_options(proves=proves),
                 pool=pool,
                 exact_solver=ExactOptimum.of(self.program, factors, judge.deadline),
             )
@@ -389,22 +379,20 @@ class AnswerCertifier:
         exported = {row: dual / factors.get(row, 1) for row, dual in evidence.duals.items()}
         return evidence._replace(duals=exported)
 
-    def _tell(self, progress: SearchProgress) -> None:
-        """Tells the line of progress what the search is at: its step, and what is known so far.
+    def _search_options(self, *, proves: bool) -> SearchOptions:
+        """What is asked of a search.
 
-        A bound that is told beside `cuts` is no claim yet: while cuts are made, that of before
-        stays.
+        Args:
+            proves: Whether long searches are wanted.
         """
-        found = dict(progress.numbers)
-        if "cuts" in found:
-            found.pop("bound", None)
-        elif found:
-            self._known.pop("cuts", None)
-        self._known.update(found)
-        if progress.step:
-            self.monitor.progress.tell_step(progress.step, self._known)
-        else:
-            self.monitor.progress.tell_numbers(self._known)
+        settings = self.settings.certificate
+        return SearchOptions(
+            objective=self.settings.objective,
+            proves=proves,
+            is_relaxation=self.is_relaxed,
+            wants_bound=settings.bound,
+            shortens=settings.shorten,
+        )
 
     def from_answer_itself(self, judge: CertificateJudge, answer: Answer) -> Evidence:
         """What an answer proves by itself: its values and duals are the certificate.

@@ -279,32 +279,15 @@ def run_settings(solver: str, values: Mapping[str, Any]) -> RunSettings:
         WrongOption: check=0 stands beside prove=1 or strict=1.
     """
     get = values.get
-    strict = bool(get("strict"))
-    proves = bool(get("prove")) or strict
-    check = bool(get("check", True))
-    if proves and not check:
-        raise WrongOption("check=0 proves nothing: it does not go with prove=1 or strict=1")
     wanted = get("wantsol", PRINTED_VALUES + PRINTED_DUALS)
     writes_sol = bool(wanted & WRITTEN_SOL)
-    overwrite = bool(get("overwrite"))
-    certificate = CertificateSettings(
-        check=check,
-        prove=proves,
-        strict=strict,
-        bound=bool(get("bound", True)),
-        shorten=bool(get("shorten")),
-        processes=get("jobs", 0),
-        cluster=get("cluster", ""),
-        path=get("certificate", ""),
-        overwrite=overwrite,
-    )
     settings = Settings(
         solver=solver,
         solver_path=get("solver", ""),
         bridge=get("bridge", ""),
         solver_settings=_solver_settings(values),
         time_limit=min(get("timelim", 0.0), LONGEST_LIMIT),
-        certificate=certificate,
+        certificate=_certificate_settings(values),
         objective=get("objno", 1) - 1,
         round_integers=bool(get("round", True)),
         shortest_numbers=get("shortest"),
@@ -315,9 +298,34 @@ def run_settings(solver: str, values: Mapping[str, Any]) -> RunSettings:
         refuses_unclear=bool(get("failexit")),
         shows_faults=get("outlev", 0) >= 2,
     )
-    outputs = OutputSettings(writes_sol, get("solution", ""), overwrite)
+    outputs = OutputSettings(writes_sol, get("solution", ""), bool(get("overwrite")))
     has_values, has_duals = bool(wanted & PRINTED_VALUES), bool(wanted & PRINTED_DUALS)
     return RunSettings(settings, outputs, has_values, has_duals, bool(get("only")))
+
+
+def _certificate_settings(values: Mapping[str, Any]) -> CertificateSettings:
+    """What is asked of the search for a certificate, by checked values of options.
+
+    Raises:
+        WrongOption: check=0 stands beside prove=1 or strict=1.
+    """
+    get = values.get
+    strict = bool(get("strict"))
+    proves = bool(get("prove")) or strict
+    check = bool(get("check", True))
+    if proves and not check:
+        raise WrongOption("check=0 proves nothing: it does not go with prove=1 or strict=1")
+    return CertificateSettings(
+        check=check,
+        prove=proves,
+        strict=strict,
+        bound=bool(get("bound", True)),
+        shorten=bool(get("shorten")),
+        processes=get("jobs", 0),
+        cluster=get("cluster", ""),
+        path=get("certificate", ""),
+        overwrite=bool(get("overwrite")),
+    )
 
 
 def _solver_settings(values: Mapping[str, Any]) -> SolverSettings:

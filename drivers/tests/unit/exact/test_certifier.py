@@ -61,7 +61,7 @@ class NoTimeForFractions(Refuter):
     """The time ends whenever the simplex method in fractions is asked."""
 
     def _run_rational_simplex(
-        self, program: IntegerProgram, answer: AnswerByPlace
+        self, program: IntegerProgram, answer: AnswerByPlace, seconds: float = 0.0
     ) -> SimplexResult:
         raise SearchPaused("time")
 
@@ -256,8 +256,8 @@ def test_an_interrupt_from_the_terminal() -> None:
     with mock.patch.object(BranchAndBound, "check_limits", interrupted):
         with interrupts_to(deadline.interrupt):
             found = certify(
-                EQUATION,
-                Judge(EQUATION),
+                KNAPSACKS,
+                Judge(KNAPSACKS),
                 claim=AnswerClaim.INFEASIBLE,
                 deadline=deadline,
                 on_progress=told.append,

@@ -12,6 +12,7 @@ from bridge_drivers.program.bridge import TEXT_LIMITS, Bridge
 from bridge_drivers.program.calls import Reply
 from bridge_drivers.program.verdict import statement_of
 from bridge_drivers.system.deadline import Deadline
+from bridge_drivers.system.processes import OutputLimits
 from bridge_drivers.system.errors import DeadlineExceeded
 from bridge_drivers.system.processes import OutputLimits
 
