@@ -80,6 +80,7 @@ class BridgeCmd(pulp.LpSolver_CMD):
         threads: Of the solver's search.
         keepFiles: The MPS file and what is told, as JSON, stay in PuLP's folder.
         prove: A certificate that the answer is optimal is searched for.
+        warmStart: Solver and search begin with the values that the problem's variables have.
 
     Attributes:
         message: What is told of the last problem, the lines joined; "" before the first.
@@ -99,6 +100,7 @@ class BridgeCmd(pulp.LpSolver_CMD):
         threads: int | None = None,
         keepFiles: bool = False,
         prove: bool = False,
+        warmStart: bool = False,
     ) -> None:
         super().__init__(
             path=driver,
@@ -112,6 +114,7 @@ class BridgeCmd(pulp.LpSolver_CMD):
         )
         self.bridge = bridge
         self.prove = prove
+        self.warm_start = warmStart
         self.message = ""
 
     def defaultPath(self) -> str:
@@ -166,7 +169,10 @@ class BridgeCmd(pulp.LpSolver_CMD):
         paths = dict(zip(FILES, self.create_tmp_files(self._free_name(lp.name), *FILES)))
         try:
             problem = write_problem(lp, paths["mps"])
-            report = solve(problem.path, self.solver(), **self._options())
+            options = self._options()
+            if self.warm_start:
+                options.setdefault("start", _values_by_name(lp, problem.names))
+            report = solve(problem.path, self.solver(), **options)
             if self.keepFiles:
                 write_new(paths["json"], report.json().encode("ascii"))
         except BridgeError as fault:
@@ -208,6 +214,21 @@ class BridgeCmd(pulp.LpSolver_CMD):
         if "solver" in given:
             given["program"] = given.pop("solver")
         return {**options, **given}
+
+
+def _values_by_name(lp: pulp.LpProblem, names: Mapping[str, str]) -> dict[str, float] | None:
+    """The values that a problem's variables have, by the file's names; None where none has one.
+
+    Args:
+        lp: The problem.
+        names: The file's names of variables by PuLP's.
+    """
+    values = {
+        names[variable.name]: float(variable.varValue)
+        for variable in lp.variables()
+        if variable.varValue is not None and variable.name in names
+    }
+    return values or None
 
 
 def write_problem(lp: pulp.LpProblem, path: str) -> WrittenProblem:

@@ -15,7 +15,7 @@ from typing import List, Optional, Sequence
 
 from .. import api
 from ..formats.sol import failure_sol, short_table, value_lines
-from ..formats.source import Source, Workspace, missing_source, read_model
+from ..formats.source import Source, Workspace, missing_source, read_model, read_source
 from ..pipeline.monitor import Monitor
 from ..pipeline.outcome import code_of_error
 from ..pipeline.outputs import (
@@ -41,6 +41,7 @@ from ..system.errors import (
     WrongOption,
 )
 from ..system.errors import Interrupted
+from ..system.files import write_new
 from ..system.version import VERSION
 from .console import Console, Destination, run_command
 from .minizinc import tell_minizinc
@@ -195,18 +196,21 @@ class DriverCommand:
         """
         try:
             self._read_model()
+            start = self._read_start()
             self.take_options()
+            if start:
+                self.options.put("start", start)
             return self.deliver(self._work())
         except BridgeError as error:
             return self.failed(error)
         except Exception as fault:  # a modelling system is told, whatever it was
             if self.options.number("outlev") >= LOG_AND_COMMANDS:
                 self.console.error(traceback.format_exc().rstrip("\n"))
-            error = DriverFault(repr(fault))
+            told = DriverFault(repr(fault))
             if self.has_sol:
-                self.console.error(f"{self.name}: {error}")
-                return error.status
-            return self.failed(error)
+                self.console.error(f"{self.name}: {told}")
+                return told.status
+            return self.failed(told)
 
     def _read_model(self) -> None:
         """Opens the model, and sets `source`.
@@ -223,6 +227,23 @@ class DriverCommand:
             self.missing = FileFault(word, str(fault.strerror), FileAction.READ)
         if self.missing is not None:
             self.source = missing_source(word)
+
+    def _read_start(self) -> str:
+        """The path of a copy of the file that `start` names, "" where it names none.
+
+        It is read before an older .sol is removed, which may be that file.
+
+        Raises:
+            FileFault: It cannot be read.
+        """
+        named = self._said_early().text("start")
+        if not named:
+            return ""
+        try:
+            with open(read_source(named, self.workspace).path, "rb") as file:
+                return write_new(self.workspace.new_path(), file.read())
+        except OSError as fault:
+            raise FileFault.of(fault, named, FileAction.READ) from None
 
     def take_options(self) -> None:
         """Reads the options of the variable and of the words; tells them where that is asked for.

@@ -250,6 +250,13 @@ COMMON_OPTIONS: Sequence[Option] = (
     ),
     Option("solver", "", FILE, "the solver's program, where it is not on the PATH"),
     Option(
+        "start",
+        "",
+        FILE,
+        "values that solver and search begin with: a .sol, lines NAME VALUE, or JSON (the guess in "
+        "the model)",
+    ),
+    Option(
         "strict",
         0,
         SWITCH,

@@ -103,6 +103,14 @@ class Answer:
         costs = self.reduced_costs
         return None if costs is None else decimals(costs)[0]
 
+    def rounded_parts(self) -> str:
+        """What of it is only the nearest decimals of fractions, in words.
+
+        `values`, `duals` or both; "" where nothing is.
+        """
+        counts = {"values": self.rounded_values, "duals": self.rounded_duals}
+        return " and ".join(name for name, count in counts.items() if count)
+
     @cached_property
     def doubles(self) -> list[float]:
         """The nearest double of each of `values`, by column; empty without a point."""

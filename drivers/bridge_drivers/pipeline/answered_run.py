@@ -280,11 +280,13 @@ class AnsweredRun:
     def _notes_on_search(self, answer: Answer, resolution: Resolution) -> list[str]:
         """Lines on the search.
 
-        They say how a limit of time was divided that the solver or the search reached, that the
+        They say what became of a start, how a limit of time was divided that the solver or the search reached, that the
         user ended the search, the objective of another point, and that the solver's word alone
         makes a proved point optimal.
         """
         lines = []
+        if self.judge.start_note:
+            lines.append(self.judge.start_note)
         shares = self.judge.shares.words()
         if shares and (self.judge.is_out_of_time or TIME_LIMIT in answer.found.text):
             lines.append(shares)

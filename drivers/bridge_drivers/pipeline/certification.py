@@ -14,8 +14,8 @@ from ..exact import clp
 from ..exact.worker_pools import WorkerPool, open_pool
 from ..exact.certificate import lines_of_answer
 from ..exact.certifier import certify
-from ..exact.evidence import NOT_PROVED, AnswerClaim, Evidence, not_proved
-from ..exact.search_deadline import SearchDeadline, SearchProgress
+from ..exact.evidence import NOT_PROVED, AnswerByPlace, AnswerClaim, Evidence, not_proved
+from ..exact.search_deadline import SearchDeadline
 from ..exact.task import SearchOptions
 from ..model.analysis import TOLERANCE_OF_INTEGERS, worst_residual
 from ..model.linear_program import EPIGRAPH_COLUMN
@@ -31,11 +31,14 @@ from ..solvers.run import SolverRun
 from ..formats.numbers import decimal, decimal_or_fraction
 from .answer import Answer
 from .answer_places import answer_by_place
+from .exact_optimum import ExactOptimum
 from .judge import CertificateJudge
+from .judged_start import judged_start
 from .monitor import Monitor
 from .row_factors import whole_form
 from .settings import Settings
 from .stored_certificate import CertificateStore, StoredCertificate
+from .start_point import StartPoint
 from .time_shares import TimeShares
 
 ONE_LEAF_SECONDS = 1.0  # of a search without prove=1
@@ -96,6 +99,8 @@ class AnswerCertifier:
         pool_note: A line for the message on the processes that searched; "" where there is nothing
             to say.
         store: Keeps the certificate that is accepted.
+        start: Values that the search may begin with; None where there are none.
+        start_note: A line for the message where it did; "" where it did not.
     """
 
     def __init__(
@@ -129,7 +134,8 @@ class AnswerCertifier:
         self.is_interrupted = False
         self.is_out_of_time = False
         self.pool_note = ""
-        self._known: dict[str, float] = {}
+        self.start: Optional[StartPoint] = None
+        self.start_note = ""
         self.store = CertificateStore(
             bridge,
             model,
@@ -252,15 +258,17 @@ class AnswerCertifier:
         proves = settings.prove and not self.run.is_interrupted
         deadline = self._deadline(is_search=proves)
         judge = CertificateJudge(self.bridge, self.model, self.run.path("certificate"), deadline)
-        seconds = deadline.left()
-        pool = open_pool(settings.processes, settings.cluster, seconds) if proves else None
+        pool = open_pool(settings.processes, settings.cluster, deadline) if proves else None
         self._known = {}
-        self.monitor.progress.begin("certificate", deadline.seconds)
+        self.monitor.stage_begins("certificate", deadline.seconds)
         try:
             with self.monitor.timing("certify"):
-                evidence = self.searched(answer, judge, pool, proves=proves)
+                start = self.certified_start(answer, judge)
+                evidence = self.searched(answer, judge, pool, start, proves=proves)
+                if start is not None and not evidence.is_proved:
+                    evidence = start
         finally:
-            self.monitor.progress.begin("")
+            self.monitor.stage_begins("", 0.0)
             if pool is not None:
                 pool.close()
                 self.pool_note = pool.note
@@ -303,8 +311,23 @@ class AnswerCertifier:
             may_be_unbounded=evidence.may_be_unbounded,
         )
 
+    def certified_start(self, answer: Answer, judge: CertificateJudge) -> Evidence | None:
+        """The start where it is a feasible point and better than the answer; sets `start_note`."""
+        self.start_note = ""
+        if self.start is None or self.is_relaxed:
+            return None
+        found = judged_start(self.start, answer, lambda values: self.judged(judge, values, []))
+        self.start_note = found.note
+        return found.evidence
+
     def searched(
-        self, answer: Answer, judge: CertificateJudge, pool: WorkerPool | None, *, proves: bool
+        self,
+        answer: Answer,
+        judge: CertificateJudge,
+        pool: WorkerPool | None,
+        start: Evidence | None = None,
+        *,
+        proves: bool,
     ) -> Evidence:
         """What the search proves of an answer, or why it proves nothing.
 
@@ -317,19 +340,13 @@ class AnswerCertifier:
             judge: Of the certificates; its deadline is that of the search, and starts anew where
                 nothing is proved by a long one.
             pool: Other processes that search; None for none.
+            start: A certified point that is better than the answer, and takes its place; None for
+                none.
             proves: Whether long searches are wanted.
 
         Returns:
             Its duals are by the file's constraint.
         """
-        settings = self.settings.certificate
-        options = SearchOptions(
-            objective=self.settings.objective,
-            proves=proves,
-            is_relaxation=self.is_relaxed,
-            wants_bound=settings.bound,
-            shortens=settings.shorten,
-        )
         try:
             program, factors = whole_form(self.bridge, self.model, self.program)
         except (Refusal, ProgramFailed) as fault:
@@ -342,38 +359,40 @@ class AnswerCertifier:
         if given.duals is not None and factors:
             duals = {row: factors.get(row, 1) * dual for row, dual in given.duals.items()}
             given = given._replace(duals=duals)
+        claim = CLAIM_OF_STATUS[answer.found.status]
+        if start is not None:
+            claim, given = AnswerClaim.POINT, AnswerByPlace(start.point)
         with interrupts_to(judge.deadline.interrupt):
             evidence = certify(
                 program,
                 judge,
-                claim=CLAIM_OF_STATUS[answer.found.status],
+                claim=claim,
                 answer=given,
                 deadline=judge.deadline,
-                on_progress=self._tell,
-                options=options,
+                on_progress=self.monitor.tell_search,
+                options=self._search_options(proves=proves),
                 pool=pool,
+                exact_solver=ExactOptimum.of(self.program, factors, judge.deadline),
             )
         if not factors:
             return evidence
         exported = {row: dual / factors.get(row, 1) for row, dual in evidence.duals.items()}
         return evidence._replace(duals=exported)
 
-    def _tell(self, progress: SearchProgress) -> None:
-        """Tells the line of progress what the search is at: its step, and what is known so far.
+    def _search_options(self, *, proves: bool) -> SearchOptions:
+        """What is asked of a search.
 
-        A bound that is told beside `cuts` is no claim yet: while cuts are made, that of before
-        stays.
+        Args:
+            proves: Whether long searches are wanted.
         """
-        found = dict(progress.numbers)
-        if "cuts" in found:
-            found.pop("bound", None)
-        elif found:
-            self._known.pop("cuts", None)
-        self._known.update(found)
-        if progress.step:
-            self.monitor.progress.tell_step(progress.step, self._known)
-        else:
-            self.monitor.progress.tell_numbers(self._known)
+        settings = self.settings.certificate
+        return SearchOptions(
+            objective=self.settings.objective,
+            proves=proves,
+            is_relaxation=self.is_relaxed,
+            wants_bound=settings.bound,
+            shortens=settings.shorten,
+        )
 
     def from_answer_itself(self, judge: CertificateJudge, answer: Answer) -> Evidence:
         """What an answer proves by itself: its values and duals are the certificate.
@@ -476,7 +495,7 @@ class AnswerCertifier:
         if told.endswith(" is broken"):
             told = self.broken_words(answer, verdict, told)
         said = statement_of(verdict.line)
-        rounded = rounded_parts(answer)
+        rounded = answer.rounded_parts()
         if said is not None and said.claim is Claim.OPTIMAL and rounded:
             if told.split()[-1:] != [decimal_or_fraction(str(said.value))]:
                 told += f"; the exact {rounded} are rounded to decimals in it"
@@ -571,12 +590,3 @@ def is_point(values: Sequence[str], point: Sequence[Fraction] | None) -> bool:
 def feasible_words(value: Fraction) -> str:
     """Words that values are a feasible point, with its objective in the objective's own sense."""
     return f"feasible, objective exactly {decimal_or_fraction(str(value))}"
-
-
-def rounded_parts(answer: Answer) -> str:
-    """What of an answer is only the nearest decimals of fractions, in words.
-
-    `values`, `duals` or both; "" where nothing is.
-    """
-    counts = {"values": answer.rounded_values, "duals": answer.rounded_duals}
-    return " and ".join(name for name, count in counts.items() if count)

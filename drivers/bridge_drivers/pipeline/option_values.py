@@ -9,6 +9,7 @@ from __future__ import annotations
 import math
 import os
 import shlex
+from fractions import Fraction
 from typing import Any, Callable, Dict, List, Mapping, NamedTuple, Sequence
 
 from ..solvers import SOLVERS
@@ -16,6 +17,7 @@ from ..solvers.settings import SolverOption, SolverSettings
 from ..system.errors import WrongOption
 from ..system.text import did_you_mean, shortened
 from .settings import CertificateSettings, OutputSettings, Settings
+from .start_point import Start
 
 WRITTEN_SOL = 1  # parts of `wantsol`
 PRINTED_VALUES = 2
@@ -115,6 +117,16 @@ def _choice(*known: str) -> Callable[[Any], str]:
     return take
 
 
+def _start(value: Any) -> Start:
+    """A path as a str, or a mapping of names to numbers as fractions; TypeError of anything else.
+
+    Doubles are taken as their shortest decimals; ValueError of what is infinite or no number.
+    """
+    if not isinstance(value, Mapping):
+        return _path(value)
+    return {_text(name): Fraction(str(number)) for name, number in value.items()}
+
+
 def _words(value: Any) -> List[str]:
     """A list of words: those of a sequence of texts, or those that a shell splits one text into."""
     if isinstance(value, str):
@@ -153,6 +165,7 @@ COMMON: Mapping[str, Kind] = {
     "shorten": SWITCH,
     "solution": FILE,
     "solver": FILE,
+    "start": _kind("a path, or numbers by name", _start),
     "strict": SWITCH,
     "timelim": _kind("a number of seconds from 0 on", _amount(), float),
     "wantsol": _kind("a whole number from 0 to 15", _whole(0, 15), int),
@@ -266,15 +279,43 @@ def run_settings(solver: str, values: Mapping[str, Any]) -> RunSettings:
         WrongOption: check=0 stands beside prove=1 or strict=1.
     """
     get = values.get
+    wanted = get("wantsol", PRINTED_VALUES + PRINTED_DUALS)
+    writes_sol = bool(wanted & WRITTEN_SOL)
+    settings = Settings(
+        solver=solver,
+        solver_path=get("solver", ""),
+        bridge=get("bridge", ""),
+        solver_settings=_solver_settings(values),
+        time_limit=min(get("timelim", 0.0), LONGEST_LIMIT),
+        certificate=_certificate_settings(values),
+        objective=get("objno", 1) - 1,
+        round_integers=bool(get("round", True)),
+        shortest_numbers=get("shortest"),
+        mps_form=get("format", ""),
+        start=get("start", ""),
+        keep_folder=get("keep", ""),
+        makes_sol=writes_sol,
+        refuses_unclear=bool(get("failexit")),
+        shows_faults=get("outlev", 0) >= 2,
+    )
+    outputs = OutputSettings(writes_sol, get("solution", ""), bool(get("overwrite")))
+    has_values, has_duals = bool(wanted & PRINTED_VALUES), bool(wanted & PRINTED_DUALS)
+    return RunSettings(settings, outputs, has_values, has_duals, bool(get("only")))
+
+
+def _certificate_settings(values: Mapping[str, Any]) -> CertificateSettings:
+    """What is asked of the search for a certificate, by checked values of options.
+
+    Raises:
+        WrongOption: check=0 stands beside prove=1 or strict=1.
+    """
+    get = values.get
     strict = bool(get("strict"))
     proves = bool(get("prove")) or strict
     check = bool(get("check", True))
     if proves and not check:
         raise WrongOption("check=0 proves nothing: it does not go with prove=1 or strict=1")
-    wanted = get("wantsol", PRINTED_VALUES + PRINTED_DUALS)
-    writes_sol = bool(wanted & WRITTEN_SOL)
-    overwrite = bool(get("overwrite"))
-    certificate = CertificateSettings(
+    return CertificateSettings(
         check=check,
         prove=proves,
         strict=strict,
@@ -283,27 +324,8 @@ def run_settings(solver: str, values: Mapping[str, Any]) -> RunSettings:
         processes=get("jobs", 0),
         cluster=get("cluster", ""),
         path=get("certificate", ""),
-        overwrite=overwrite,
+        overwrite=bool(get("overwrite")),
     )
-    settings = Settings(
-        solver=solver,
-        solver_path=get("solver", ""),
-        bridge=get("bridge", ""),
-        solver_settings=_solver_settings(values),
-        time_limit=min(get("timelim", 0.0), LONGEST_LIMIT),
-        certificate=certificate,
-        objective=get("objno", 1) - 1,
-        round_integers=bool(get("round", True)),
-        shortest_numbers=get("shortest"),
-        mps_form=get("format", ""),
-        keep_folder=get("keep", ""),
-        makes_sol=writes_sol,
-        refuses_unclear=bool(get("failexit")),
-        shows_faults=get("outlev", 0) >= 2,
-    )
-    outputs = OutputSettings(writes_sol, get("solution", ""), overwrite)
-    has_values, has_duals = bool(wanted & PRINTED_VALUES), bool(wanted & PRINTED_DUALS)
-    return RunSettings(settings, outputs, has_values, has_duals, bool(get("only")))
 
 
 def _solver_settings(values: Mapping[str, Any]) -> SolverSettings:

@@ -9,6 +9,7 @@ from dataclasses import dataclass, field
 from typing import Optional
 
 from ..solvers.settings import SolverSettings
+from .start_point import Start
 
 
 @dataclass(frozen=True)
@@ -56,6 +57,8 @@ class Settings:
         shortest_numbers: Numbers of an .nl file with 16 digits or more become the shortest ones with
             the same double. None is the same as False, but a note tells what else could be had.
         mps_form: `free` or `fixed`: how the lines of an MPS file are read; "" tries both.
+        start: What solver and search begin with: the path of a file of values, or values by name;
+            "" for the guess that the model has itself.
         keep_folder: Where the files in between are kept; "" for nowhere.
         makes_sol: The values are passed on as a .sol, which messages then name.
         refuses_unclear: That a solver says "infeasible or unbounded" is no answer.
@@ -72,6 +75,7 @@ class Settings:
     round_integers: bool = True
     shortest_numbers: Optional[bool] = None
     mps_form: str = ""
+    start: Start = ""
     keep_folder: str = ""
     makes_sol: bool = False
     refuses_unclear: bool = False

@@ -43,6 +43,7 @@ from .answered_run import AnsweredRun, Outcome
 from .certification import AnswerCertifier
 from .monitor import Monitor
 from .settings import Settings
+from .start_point import StartPoint, start_point
 from .time_shares import TimeShares
 
 
@@ -270,10 +271,27 @@ class SolveRun:
         if settings.keep_folder:
             run.write("model.mps", program.text)
         notes = [*self.source.notes, *read_program.notes, *program.notes]
+        nl = None if self.source.is_mps else read_program.path
+        start = start_point(program, nl, settings.start)
+        if start is not None:
+            run.start_values = start.doubles()
+            notes += self._notes_on_start(start)
         judge = AnswerCertifier(
             self.bridge, read_program.path, run, settings, self.monitor, self.shares
         )
+        judge.start = start
         return AnsweredRun(self.solver, settings, run, judge, notes).outcome()
+
+    def _notes_on_start(self, start: StartPoint) -> list[str]:
+        """A line on a start that the user named: how many variables have a value, and whether the
+        solver takes it.
+        """
+        if not start.is_named:
+            return []
+        told = f"start: {start.given()} of {len(start.values)} variables have a value"
+        if not self.solver.takes_start:
+            told += f"; {self.solver.title} takes no start, the search for a certificate does"
+        return [told]
 
     def _read(self) -> ReadProgram | Outcome:
         """The program that is exported, or the outcome of a model that no solver is asked about.

@@ -350,6 +350,7 @@ REASONS: Mapping[str, Tuple[Reason, ...]] = {
 
 
 def _by_words() -> Dict[str, Reason]:
+    """Each reason by each of its words; of words that stand twice the first kind counts."""
     found: Dict[str, Reason] = {}
     for reasons in REASONS.values():
         for reason in reasons:
@@ -382,6 +383,7 @@ def listed_reasons() -> str:
 
 
 def _paragraph(reason: Reason) -> str:
+    """A reason in lines of LISTED_WIDTH: its words, what they mean, and what helps."""
     text = "; ".join(filter(None, (reason.text, reason.more)))
     if reason.remedy:
         text += f" => {reason.remedy}"

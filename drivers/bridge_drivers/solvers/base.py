@@ -105,6 +105,7 @@ class Solver:
         package: Debian's package that has it.
         title: Its name in messages.
         takes_integers: Whether it takes integer columns.
+        takes_start: Whether it begins with values that it is given (`SolverRun.start_values`).
         retry_words: How it is asked once more where an answer is not usable; "" where it is not.
         options: The settings that it takes beside those that all take.
         version_pattern: Matches a line of its log; the one group is the version.
@@ -118,6 +119,7 @@ class Solver:
     package = ""
     title = ""
     takes_integers = True
+    takes_start = False
     retry_words = ""
     options: Sequence[SolverOption] = ()
     version_pattern = ""

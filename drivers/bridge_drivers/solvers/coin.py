@@ -102,12 +102,19 @@ class Coin(Solver):
         words = [run.executable, path]
         if run.program.maximise:
             words.append("-max")
+        words += self.start_arguments(run)
         words += self.arguments(run.settings, is_retry=run.is_retry)
         words += [command, "-solution", run.path("answer.txt")]
         words += ["-saveSolution", run.path("answer.bin")]
         if run.is_continuous():
             words += ["-basisOut", run.path("answer.bas")]
         return read_answer(run, run.start([*words, "-quit"]))
+
+    def start_arguments(self, run: SolverRun) -> list[str]:
+        """The words that give it values to begin with, whose file is written; none where it takes
+        none, or for a second question.
+        """
+        return []
 
     def mps_text(self, program: LinearProgram) -> bytes:
         """The text with another first line, and doubles in place of numbers of too many digits.
@@ -137,6 +144,21 @@ class Cbc(Coin):
     retry_words = "without preprocessing"
     version_pattern = r"Version: (\S+)"
     options = (SolverOption.MIP_GAP, SolverOption.THREADS)
+    takes_start = True
+
+    def start_arguments(self, run: SolverRun) -> list[str]:
+        """As of `Coin`: CBC has `-mipstart`, for programs with integer columns.
+
+        The file is as one of -solution: a first line, then a number, a name, a value and a cost of
+        each column that has a value. Others are found by CBC.
+        """
+        if run.is_continuous() or run.is_retry or not run.start_values:
+            return []
+        lines = ["Feasible - objective value 0"]
+        for number, (name, value) in enumerate(zip(run.program.names.columns, run.start_values)):
+            if value is not None:
+                lines.append(f"{number} {name} {value!r} 0")
+        return ["-mipstart", run.write("start.txt", ("\n".join(lines) + "\n").encode("ascii"))]
 
     def arguments(self, settings: SolverSettings, *, is_retry: bool = False) -> list[str]:
         """As of `Solver`. Its time limit is one of the clock, not of the processor."""

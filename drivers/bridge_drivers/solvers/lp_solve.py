@@ -88,6 +88,7 @@ class LpSolve(Solver):
     package = "lp-solve"
     retry_words = "without scaling"
     infinite = "1e30"
+    takes_start = True
     options = (SolverOption.MIP_GAP,)
     progress_patterns = (
         r"^(?:Feasible|Improved) solution +(?P<incumbent>\S+) after +(?P<iterations>\d+) iter, "
@@ -116,6 +117,7 @@ class LpSolve(Solver):
         """
         path = run.write("lp_solve.mps", run.written.text)
         words = [*self.reading_arguments(run.program, path), TELLS_PROGRESS]
+        words += start_arguments(run)
         words += self.arguments(run.settings, is_retry=run.is_retry)
         finished = run.start([run.executable, *words])
         finished = finished._replace(log=answer_in_log(finished.log))
@@ -136,6 +138,18 @@ class LpSolve(Solver):
         Without -mps_negobjconst it adds the side of the objective row, where others subtract it.
         """
         return ["-fmps", path, "-S4", "-mps_negobjconst"]
+
+
+def start_arguments(run: SolverRun) -> list[str]:
+    """The words by which lp_solve guesses its first basis from values, whose file is written.
+
+    It has no way to be given an incumbent. There are none for a second question.
+    """
+    if not run.start_values or run.is_retry:
+        return []
+    pairs = zip(run.program.names.columns, run.start_values)
+    lines = [f"{name}: {value!r};\n" for name, value in pairs if value is not None]
+    return ["-gbas", run.write("start.txt", "".join(lines).encode("ascii"))]
 
 
 def answer_of_head(run: SolverRun, told: ToldStatus, head: str, *, has_point: bool) -> SolverAnswer:

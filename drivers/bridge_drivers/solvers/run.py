@@ -77,6 +77,8 @@ class SolverRun:
         stage: What the observer is told is at work; the name of the executable where nothing else
             is set.
         killed: When the process is killed that starts next.
+        start_values: To begin with, one for each column of the program, None where nothing is said;
+            empty: there are none. Solvers that take a start are given it.
         is_retry: It is asked once more, in another way.
         is_interrupted: It was told to end before it had ended by itself.
         log: Of the last process.
@@ -104,6 +106,7 @@ class SolverRun:
         self.observer = observer or RunObserver()
         self.stage = os.path.basename(executable)
         self.killed = Deadline()
+        self.start_values: Sequence[float | None] = ()
         self.is_retry = False
         self.is_interrupted = False
         self.log = ""

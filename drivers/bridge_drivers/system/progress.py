@@ -82,13 +82,13 @@ def progress_words(known: Mapping[str, float]) -> str:
     return ", ".join(parts)
 
 
-def duration_words(seconds: float) -> str:
-    """A time in words of the unit that fits: `40 s`, `12 min`, `3 h`."""
-    if seconds < 100:
-        return f"{seconds:.0f} s"
-    if seconds < 100 * 60:
-        return f"{seconds / 60:.0f} min"
-    return f"{seconds / 3600:.0f} h"
+def duration_words(left: float) -> str:
+    """So many seconds in words of the unit that fits: `40 s`, `12 min`, `3 h`."""
+    if left < 100:
+        return f"{left:.0f} s"
+    if left < 100 * 60:
+        return f"{left / 60:.0f} min"
+    return f"{left / 3600:.0f} h"
 
 
 def gap_percentage(incumbent: float, bound: float) -> float:

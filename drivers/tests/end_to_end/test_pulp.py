@@ -145,3 +145,20 @@ def test_files_that_are_kept(in_folder: Workspace) -> None:
     problem.solve(command_of("cbc", keepFiles=True))
     assert in_folder.names() == {"kept-pulp.json", "kept-pulp.mps"}
     assert " G  both\n" in in_folder.path("kept-pulp.mps").read_text()
+
+
+@needs_mps
+@pytest.mark.parametrize("driver", MIXED_INTEGER)
+def test_a_warm_start(workspace: Workspace, driver: str) -> None:
+    """The values that variables have are where solver and search begin; names need be no words."""
+    x, y = pulp.LpVariable("x", 0, 9, cat="Integer"), pulp.LpVariable("a long y", 0, 9)
+    problem = problem_of(3 * x + 2 * y, 2 * x + y <= 9, x + 3 * y <= 14, sense=-1)
+    x.setInitialValue(2)
+    y.setInitialValue(4)
+    command = command_of(driver, warmStart=True)
+    command.tmpDir = str(workspace.folder)
+    problem.solve(command)
+    assert "start: 2 of 2 variables have a value" in command.message
+    x.varValue = y.varValue = None
+    problem.solve(command)
+    assert "start:" not in command.message and pulp.LpStatus[problem.status] == "Optimal"

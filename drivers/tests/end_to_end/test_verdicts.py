@@ -193,7 +193,7 @@ FAILURES = [
         ["objno=0"],
         502,
         3,
-        "objno=0: a whole number from 1 on is wanted",
+        "objno=0: a whole number from 1 to 4294967296 is wanted",
     ),
 ]
 

@@ -129,3 +129,13 @@ def test_names_that_a_file_cannot_have(name: str, told: str, tmp_path: Path) -> 
     written = pulp_solver.write_problem(problem, str(tmp_path / "p.mps"))
     assert f" G  {told}\n" in Path(written.path).read_text()
     assert list(written.names) == ["left"]
+
+
+def test_a_warm_start_has_the_values_that_are_there() -> None:
+    """By the names of the file, and none where no variable has a value."""
+    x, y = pulp.LpVariable("x", 0, 1), pulp.LpVariable("y", 0, 1)
+    problem = problem_of(x + y, x + y >= 1)
+    names = {"x": "X0000000", "y": "X0000001"}
+    assert pulp_solver._values_by_name(problem, names) is None
+    y.setInitialValue(1)
+    assert pulp_solver._values_by_name(problem, names) == {"X0000001": 1.0}

@@ -202,12 +202,13 @@ def test_a_node_that_never_closes(monkeypatch: pytest.MonkeyPatch) -> None:
 
 
 def test_time_for_cuts() -> None:
-    """A fifth of all seconds, whatever others took; twice as much at a time where it was in vain."""
+    """A share of all seconds, whatever others took; twice as much at a time where it was in vain."""
     portfolio = after_ten_seconds()
-    assert portfolio.time_for_cuts() == 2.0
-    portfolio.preparation.seconds = 1.9
+    share = 10.0 * portfolio_module.CUTS_SHARE
+    assert portfolio.time_for_cuts() == share
+    portfolio.preparation.seconds = share - 0.1
     assert portfolio.time_for_cuts() == -math.inf
-    portfolio.preparation.seconds = 1.5
+    portfolio.preparation.seconds = share - 0.5
     assert portfolio.time_for_cuts() == pytest.approx(0.5)
     portfolio.preparation.add([], 0.0)
     assert portfolio.time_for_cuts() == pytest.approx(0.5)

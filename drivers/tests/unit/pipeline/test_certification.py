@@ -8,7 +8,6 @@ from typing import List, Optional
 
 import pytest
 
-from bridge_drivers.exact.search_deadline import SearchProgress
 from bridge_drivers.model.linear_program import LinearProgram
 from bridge_drivers.pipeline.answered_run import proved_gap_words, shows_its_claim
 from bridge_drivers.pipeline.certification import AnswerCertifier, feasible_words, is_point
@@ -112,17 +111,3 @@ def test_a_gap_in_words(line: str, words: str) -> None:
 )
 def test_whether_duals_show_what_is_proved(told: str, claim: str, shows: bool) -> None:
     assert shows_its_claim(told, claim) == shows
-
-
-def test_progress_of_a_search_stays_on_the_line(tmp_path: Path) -> None:
-    """A step is told beside what is known; a bound of cuts that are still made is no claim."""
-    judge = certifier(tmp_path, "knap")
-    progress = judge.monitor.progress
-    judge._tell(SearchProgress("", {"cuts": 3.0, "bound": 25.0}))
-    assert progress.detail == "3 cuts"
-    judge._tell(SearchProgress("", {"incumbent": 17.0, "bound": 20.0, "nodes": 5.0}))
-    assert progress.detail == "incumbent 17, bound 20, gap 15 %, 5 nodes"
-    judge._tell(SearchProgress("", {"cuts": 4.0, "bound": 18.0}))
-    assert progress.detail == "incumbent 17, bound 20, gap 15 %, 5 nodes, 4 cuts"
-    judge._tell(SearchProgress("bridge verify"))
-    assert progress.detail == "incumbent 17, bound 20, gap 15 %, 5 nodes, 4 cuts, bridge verify"

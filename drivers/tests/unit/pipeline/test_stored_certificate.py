@@ -8,11 +8,13 @@ from typing import Optional, Union
 import pytest
 
 from bridge_drivers.pipeline.stored_certificate import CertificateStore, StoredCertificate
-from bridge_drivers.program.bridge import Bridge
+from bridge_drivers.program.bridge import TEXT_LIMITS, Bridge
 from bridge_drivers.program.calls import Reply
 from bridge_drivers.program.verdict import statement_of
 from bridge_drivers.system.deadline import Deadline
+from bridge_drivers.system.processes import OutputLimits
 from bridge_drivers.system.errors import DeadlineExceeded
+from bridge_drivers.system.processes import OutputLimits
 
 NEW = b"certificate 1\noptimal 0\npoint 0\nduals 0\n"
 OLDER = b"certificate 1\noptimal 0\npoint 1\n0 1\nduals 0\n"
@@ -27,7 +29,12 @@ class SayingBridge(Bridge):
         super().__init__([])
         self.says = line
 
-    def call(self, *words: str, deadline: Optional[Deadline] = None) -> Reply:
+    def call(
+        self,
+        *words: str,
+        deadline: Optional[Deadline] = None,
+        limits: OutputLimits = TEXT_LIMITS,
+    ) -> Reply:
         if self.says is None:
             raise DeadlineExceeded("verify")
         is_verdict = statement_of(self.says) is not None
