@@ -29,7 +29,7 @@ from .evidence import (
 from .integer_certifier import IntegerCertifier
 from .linear_certifier import LinearCertifier
 from .refutations import Refuter
-from .search_deadline import SearchDeadline, SearchProgress
+from .search_deadline import KEPT_SECONDS, SearchDeadline, SearchProgress
 from .task import CertificationTask, SearchOptions
 from .work_limit import limit_work
 from .worker_pools import WorkerPool
