@@ -84,7 +84,7 @@ def test_a_value_out_of_its_range(word: str) -> None:
 
 
 def test_the_values_of_an_option_in_words() -> None:
-    assert Option("x", 0, COUNT, "").values() == "(a whole number from 0 on; 0)"
+    assert Option("x", 0, COUNT, "").values() == "(a whole number from 0 to 1024; 0)"
     known = values().known
     assert known["outlev"].values() == "(0, 1 or 2; 0)"
     assert known["format"].values() == "(free or fixed)"
