@@ -299,7 +299,8 @@ CERTIFY_OPTIONS: Sequence[Option] = (
         "timelim",
         120.0,
         AMOUNT,
-        "seconds of the whole run, of which one half is kept for the certificate; 0: no limit",
+        "seconds of the whole run, of which one half is kept for the certificate; "
+        "0: no limit, but the certificate has 60 seconds of the processor",
     ),
 )
 
