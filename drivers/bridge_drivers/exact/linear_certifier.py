@@ -14,7 +14,7 @@ from fractions import Fraction
 from typing import Iterable, Iterator, List, Mapping, NamedTuple, Optional, Sequence
 
 from .short_duals import NO_MULTIPLIERS, ShortDuals, box_bound, rounded_duals, short_duals
-from .short_points import NEAR_OF_DOUBLES, NEAR_OF_EXACT, fixed_points, short_point
+from .short_points import NEAR_OF_DOUBLES, NEAR_OF_EXACT, fixed_points, point_fits, short_point
 from ..model.integer_form import Box, IntegerProgram, Point
 from ..system.deadline import Deadline
 from ..system.errors import NotSolved, TooManyBits
@@ -31,8 +31,9 @@ from .task import CertificationTask, ExactAnswer
 
 LARGE_ENTRIES = 3000  # from which on bases come first, where SciPy is there
 MOST_REFINED_ENTRIES = 200_000  # of a program whose bases are refined
-MOST_SHORT_ENTRIES = 200_000  # of a program whose solutions are made short
 SHORT_SECONDS = 4.0  # of the processor, for a short point, and again for short duals
+SHORT_ENTRIES_PER_SECOND = 50_000  # coefficients of a large program that have a second each
+LARGE_SHORT_ENTRIES = 200_000  # from which on duals are rounded as they are, too
 SHORT_ROUNDS = 3  # of refinement, where no exact basis is looked for
 NEAR_ENOUGH = Fraction(1, 10**9)  # of the value, or of 1: between a point and a bound
 MOST_ASKED_ENTRIES = 50_000  # of a program that another one is asked to solve in fractions
@@ -178,23 +179,21 @@ class LinearCertifier:
     def add_short_numbers(self, clp: Clp) -> None:
         """Adds to the store a point and a bound in short numbers, near each other.
 
-        Of a program with more than MOST_SHORT_ENTRIES coefficients the duals are CLP's, rounded,
-        and there is no point.
+        The exact optimum is the point where that fits by itself, and only its duals do not.
 
         Args:
             clp: The relaxation at its optimum.
         """
-        program = self.program
-        if program.matrix.count > MOST_SHORT_ENTRIES:
-            self.add_short_duals(rounded_duals(program, dict(enumerate(clp.duals()))))
-            return
         near = self.near_optimum(clp)
-        self.task.deadline.tell_step("short numbers")
-        limit = Deadline(SHORT_SECONDS, of_processor=True)
-        point = short_point(program, near.point, near.near, limit)
+        self.task.deadline.tell_step("short duals")
+        self._add_short_duals(near)
+        self.task.deadline.tell_step("a short point")
+        if self.optimum is not None and point_fits(self.program, self.optimum.point):
+            self.store.add_point(self.optimum.point)
+            return
+        point = short_point(self.program, near.point, near.near, self._short_deadline())
         if point is not None:
             self.store.add_point(point.point)
-        self._add_short_duals(near)
 
     def add_short_bound(self, clp: Clp) -> None:
         """Adds to the store the bound of duals in short numbers, as of the relaxation of an integer
@@ -203,18 +202,26 @@ class LinearCertifier:
         Args:
             clp: The relaxation at its optimum.
         """
-        if self.program.matrix.count > MOST_SHORT_ENTRIES:
-            self.add_short_duals(rounded_duals(self.program, dict(enumerate(clp.duals()))))
-        else:
-            self._add_short_duals(self.near_optimum(clp))
+        self._add_short_duals(self.near_optimum(clp))
 
     def _add_short_duals(self, near: NearOptimum) -> None:
-        """Adds to the store the bound of duals in short numbers."""
-        limit = Deadline(SHORT_SECONDS, of_processor=True)
-        value = value_near(self.program, near)
-        duals = short_duals(self.program, near.duals, value, near.near, limit)
+        """Adds to the store the bound of duals in short numbers; of a large program that of rounded
+        ones, too, where those are no better."""
+        program = self.program
+        value = value_near(program, near)
+        duals = short_duals(program, near.duals, value, near.near, self._short_deadline())
         if duals is not None:
             self.add_short_duals([duals])
+        if duals is None or program.matrix.count > LARGE_SHORT_ENTRIES:
+            one = 1 << BASE_BITS
+            doubles = {i: v / one for i, v in enumerate(near.duals)}
+            self.add_short_duals(rounded_duals(program, doubles))
+
+    def _short_deadline(self) -> Deadline:
+        """The time for a short point, or for short duals: SHORT_SECONDS, or more of a large
+        program."""
+        by_size = self.program.matrix.count / SHORT_ENTRIES_PER_SECOND
+        return Deadline(max(SHORT_SECONDS, by_size), of_processor=True)
 
     def near_optimum(self, clp: Clp) -> NearOptimum:
         """The exact optimum where it is known, else the refined one, else CLP's.
@@ -230,11 +237,12 @@ class LinearCertifier:
             ]
             return NearOptimum(fixed_points(point), fixed_points(duals), NEAR_OF_EXACT)
         refined = self.refinement
-        if refined is None or not refined.rounds:
+        is_large = self.program.matrix.count > MOST_REFINED_ENTRIES
+        if not is_large and (refined is None or not refined.rounds):
             refined = IterativeRefinement(self.program, clp, self.task.deadline)
             for _ in itertools.islice(refined.bases(), SHORT_ROUNDS):
                 pass
-        if refined.rounds:
+        if refined is not None and refined.rounds:
             return NearOptimum(refined.point, refined.duals, NEAR_OF_EXACT)
         x, duals_of_clp = clp.values(), clp.duals()
         return NearOptimum(fixed_points(x), fixed_points(duals_of_clp), NEAR_OF_DOUBLES)
