@@ -119,6 +119,9 @@ class Certifier:
         for a certificate.
         """
         found = self._certified(claim)
+        if found.claim == "feasible":  # also where the time ended within the search for a ray alone
+            is_open = found.may_be_unbounded or self.refuter.may_be_unbounded()
+            return found._replace(may_be_unbounded=is_open)
         if found.claim not in ("", "bound"):
             return found
         knows_optimum = self.store.is_optimum_known

@@ -12,7 +12,6 @@ alone no copy is needed (`commands.nl_bridge`).
 
 from __future__ import annotations
 
-import contextlib
 import hashlib
 import io
 import lzma

@@ -295,6 +295,7 @@ def run_settings(solver: str, values: Mapping[str, Any]) -> RunSettings:
         start=get("start", ""),
         keep_folder=get("keep", ""),
         makes_sol=writes_sol,
+        certifies_sol=bool(get("strict")),
         refuses_unclear=bool(get("failexit")),
         shows_faults=get("outlev", 0) >= 2,
     )

@@ -16,6 +16,7 @@ from ..system.deadline import Deadline
 from ..system.errors import DeadlineExceeded, NotFound, NotInstalled, NotStarted, ProgramFailed
 from ..system.processes import OutputLimits, run
 from .calls import Command, Reply, is_utf8
+from .certified import CertifiedSol, read_certified
 from .refusal import Refusal
 from .verdict import NoVerdict, Verdict, read_check
 
@@ -303,6 +304,25 @@ class Bridge:
         """
         command = self.forms.get(model, ModelForm.NL).judge
         return Verdict(self._judged(command, model, certificate, deadline))
+
+    def certified(
+        self, model: str, certificate: str, deadline: Optional[Deadline] = None
+    ) -> CertifiedSol:
+        """The .sol text of the claim of a certificate that holds over an .nl file.
+
+        Its message is the verdict, its values are those of the certificate's point.
+
+        Args:
+            model: The path of the .nl file.
+            certificate: The path of a file.
+            deadline: As of `call`.
+
+        Raises:
+            Refusal: A file is refused, or a value of the point has no decimal.
+            NoVerdict: The certificate does not hold, or what is answered is no such text.
+            DeadlineExceeded: It was ended at the deadline.
+        """
+        return read_certified(self._judged(Command.CERTIFIED, model, certificate, deadline))
 
     def check(self, model: str, sol: str, deadline: Optional[Deadline] = None) -> str:
         """The line on the point and the duals of a .sol file over an .nl file.

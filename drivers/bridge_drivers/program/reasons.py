@@ -345,6 +345,13 @@ REASONS: Mapping[str, Tuple[Reason, ...]] = {
             ("too large",),
             more="more nodes, lines of lists or added rows than docs/user/formats.md allows",
         ),
+        Reason(
+            ("value not decimal",),
+            "a value of the certificate's point, such as 1/3, has no decimal, and a .sol file has "
+            "no other numbers",
+            more="the certificate holds",
+            remedy="another point with the same claim; `verify` takes it as it stands",
+        ),
     ),
 }  # by the kind of text that is refused; of some words the first kind that has them counts
 

@@ -10,7 +10,8 @@ import pytest
 
 from bridge_drivers.model.linear_program import LinearProgram
 from bridge_drivers.pipeline.answered_run import proved_gap_words, shows_its_claim
-from bridge_drivers.pipeline.certification import AnswerCertifier, feasible_words, is_point
+from bridge_drivers.pipeline.answer_places import is_point
+from bridge_drivers.pipeline.certification import AnswerCertifier, feasible_words
 from bridge_drivers.pipeline.monitor import Monitor
 from bridge_drivers.pipeline.settings import CertificateSettings, Settings
 from bridge_drivers.program.bridge import Bridge
@@ -43,6 +44,20 @@ def certifier(folder: Path, program: str, *, prove: bool = False) -> AnswerCerti
 )
 def test_lines_of_check(line: str, words: str, tmp_path: Path) -> None:
     assert certifier(tmp_path, "diet").check_words(line) == words
+
+
+@pytest.mark.parametrize(
+    "exported, told",
+    [
+        ("c1", "constraint 1"),
+        ("x0", "variable 0"),
+        ("zdef", "the objective's row"),
+        ("z", "the objective's row"),
+        ("a whole number", "a whole number"),
+    ],
+)
+def test_places(exported: str, told: str, tmp_path: Path) -> None:
+    assert certifier(tmp_path, "diet").named_place(exported) == told
 
 
 def test_a_feasible_point() -> None:

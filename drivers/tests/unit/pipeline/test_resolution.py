@@ -166,7 +166,7 @@ CASES = (
         "5",
         "",
         "",
-        "no exact point has its whole values",
+        NO_EXACT_POINT,
     ),
     Case(
         "whole",
@@ -177,7 +177,7 @@ CASES = (
         "5",
         "",
         "",
-        "no exact point has its whole values",
+        NO_EXACT_POINT,
     ),
     Case(
         "whole",

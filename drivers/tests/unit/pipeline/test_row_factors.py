@@ -96,6 +96,12 @@ def test_factors_are_taken_out(dividing: str) -> None:
     assert (p.rows, p.row_scale) == ([[(0, 1)], [], [(0, 2)]], 2)
 
 
+def test_factors_of_the_objective_that_was_exported(dividing: str) -> None:
+    bridge = Returning(["2", "0", "1"])
+    whole_form(bridge, dividing, LinearProgram.of(EXPORTED), 1)
+    assert bridge.answers == ["answer 1\nobjno 1\nrow c0 1\nrow c2 1\n"]
+
+
 @pytest.mark.parametrize("factor", ["1/2", "-3"])
 def test_factors_that_are_not_whole(dividing: str, factor: str) -> None:
     with pytest.raises(UnsupportedModel):
