@@ -4,7 +4,7 @@
     hostile.py PROGRAM [truncation] [memory] [limits] [largest [NAME ..]]
 
 `truncation` cuts the files of an example of each command after each byte: the status is 0, 1 or 2, a 2 tells one line that
-begins with `refused ` and writes nothing, and a 0 or 1 tells nothing.
+begins with `refused ` and writes nothing, and a 0 or 1 tells nothing; what is written is nothing only where `certified` denies.
 `memory` refuses one allocation a run, the next in each run, until a run meets no refusal: each run that met one ends with
 6, tells `no memory` and writes nothing, or does without it (a list that was to be cut to its length) and answers as
 usual. It needs `cc`.
@@ -29,24 +29,28 @@ HERE = os.path.dirname(os.path.abspath(__file__))
 Judged = tuple[bool, str, Done]  # whether a run is as it should be, what it is, how it ended
 
 
-def is_judged(done: Done) -> bool:
-    """Whether an answer of a text that may be cut is one of the three that may come."""
+def is_judged(done: Done, command: str) -> bool:
+    """Whether an answer of this command on a text that may be cut is one of the three that may come."""
     if done.status == 2:
         return (
             done.out == b""
             and done.told.startswith(b"refused ")
             and done.told.find(b"\n") == len(done.told) - 1
         )
-    return done.status in (0, 1) and done.told == b"" and done.out != b""
+    is_empty = command == "certified" and done.status == 1
+    return done.status in (0, 1) and done.told == b"" and (done.out == b"") == is_empty
 
 
 def truncation(program: Program) -> Iterator[Judged]:
+    """Each case with each of its files cut after each of its bytes."""
     for case in texts.cases("hostile"):
         files = {name: text.content() for name, text in case.files.items()}
         for name, whole in files.items():
             for length in range(len(whole)):
                 done = program.run(case.spelled(), {**files, name: whole[:length]})
-                yield is_judged(done), f"{case.name}, file {name} cut after {length} bytes", done
+                yield is_judged(
+                    done, case.words[0]
+                ), f"{case.name}, file {name} cut after {length} bytes", done
 
 
 def without(program: Program, case: Case, library: str, number: int) -> tuple[bool, Done]:

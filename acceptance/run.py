@@ -24,6 +24,7 @@ Column = tuple[
     bool, Ends, dict[int, Fraction]
 ]  # whether it is whole, its sides, coefficients by row (-1: the objective)
 TABLES = (
+    "certified",
     "check",
     "export",
     "fixed",
@@ -95,8 +96,11 @@ def is_imported(program: Program, text: bytes, file: bytes | None) -> bool:
 
 def is_kept(program: Program, case: Case, out: bytes) -> bool:
     """Whether what was written says the same after another way through the program: what was exported is written again unchanged
-    by `mps`, and the .nl text that `nl` writes by `nl`, which is exported as the same."""
+    by `mps`, the .sol text of a certificate by `sol`, and the .nl text that `nl` writes by `nl`, which is exported as the same.
+    """
     command, *words = case.spelled()
+    if command == "certified":
+        return case.status != 0 or output(program, out, "sol") == out
     if case.status or command not in ("export", "import"):
         return True
     content = case.files["A"].content()

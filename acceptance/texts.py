@@ -9,8 +9,8 @@ A table (`tables/NAME.txt`) has, a line each, remarks (`# ..`), texts by name, m
 
 Behind four blanks the line before goes on. A row is what made it, then its cells; cells of the last
 parameters may be left out, or said as `program=REAL`. What a maker stands for are the words of a call, its files, and what
-comes of it: `writes TEXT`, `begins TEXT` (and goes on), `says VERDICT` (status 0 where the verdict holds, else 1), `refused FAULT`, `bad words`, `input
-fault`, behind `N s: ` where it has so many seconds of the processor; `call` is the maker that takes the same as they are. Words of a command alone are followed by its files, A to D.
+comes of it: `writes TEXT`, `begins TEXT` (and goes on), `says VERDICT` (status 0 where the verdict holds, else 1), `denied` (status 1, and nothing is
+written), `refused FAULT`, `bad words`, `input fault`, behind `N s: ` where it has so many seconds of the processor; `call` is the maker that takes the same as they are. Words of a command alone are followed by its files, A to D.
 
 A text has its lines between ` / `, or behind each `/` where it begins with one. In lines `{..}` stands for a value, `<..` is
 a line for each of a text or of several (`<KNAPSACK[:23]`, `<head('1 1 0 0 0 0 0 0')`), `[COUNT k` .. `]` are lines once for
@@ -38,7 +38,7 @@ HOLDS = re.compile(
 )
 MAKER = re.compile(r"(\w+)\((.*?)\) = (.*)")
 NAMED = re.compile(r"([A-Z_]+) = (.*)")
-STATUSES = {"refused": 2, "bad words": 3, "input fault": 4}
+STATUSES = {"denied": 1, "refused": 2, "bad words": 3, "input fault": 4}
 Names = dict[str, Any]
 
 
@@ -221,7 +221,7 @@ class Table:
         status = STATUSES.get(outcome, STATUSES.get(kind, 0))
         if kind == "says":
             status = int(not HOLDS.fullmatch(rest))
-        out = self.text("<[]" if status > 1 else rest)
+        out = self.text("<[]" if outcome in STATUSES or kind in STATUSES else rest)
         return Case(
             name,
             words.split(),

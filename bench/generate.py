@@ -12,7 +12,8 @@ FORM   linear       the terms stand under J (what modelling systems write)
        exponents    as linear, numbers such as 1.234e-05
        quotients    as list, each term a variable over 3, 6, 7 or 9
 ORDER  ascending, descending or mixed
-NAMES  numbered, short (random, of 7 bytes) or long (random, of 30)
+NAMES  numbered, short (random, of 7 bytes) or long (random, of 30), or as ordered8: numbered and padded by zeros to so many
+       bytes, mixed8: the same with rows and columns in any order
 SHAPE  right        v + (v + (v + ..))
        left         ((.. + v) + v) + v
        products     c v + (c v + (c v + ..))
@@ -239,12 +240,24 @@ def distinct(rnd: random.Random, first: str, count: int, size: int) -> list[str]
     return list(names)
 
 
+def padded(rnd: random.Random, first: str, count: int, form: str) -> list[str]:
+    """Numbered names of so many bytes, as `ordered8`, or in any order, as `mixed8`."""
+    size = int(form.removeprefix("ordered").removeprefix("mixed")) - len(first)
+    names = [f"{first}{i:0{size}}" for i in range(count)]
+    if form.startswith("mixed"):
+        rnd.shuffle(names)
+    return names
+
+
 def mps(entries: int, names: str) -> Iterator[str]:
-    """An MPS text of so many entries, whose names are `numbered`, `short` (7 bytes) or `long` (30)."""
+    """An MPS text of so many entries, with names of a form."""
     rnd = random.Random(1)
-    size = {"numbered": 0, "short": 6, "long": 29}[names]
+    sizes = {"numbered": 0, "short": 6, "long": 29}
     count = entries // TERMS
-    rows, columns = (distinct(rnd, first, count, size) for first in "RC")
+    if names in sizes:
+        rows, columns = (distinct(rnd, first, count, sizes[names]) for first in "RC")
+    else:
+        rows, columns = (padded(rnd, first, count, names) for first in "RC")
     yield "NAME x FREE\nROWS\n N OBJ\n" + "".join(f" L {row}\n" for row in rows) + "COLUMNS\n"
     for column in columns:
         yield "".join(

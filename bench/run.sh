@@ -175,6 +175,20 @@ for names in numbered short long; do
 done
 
 echo
+echo "mps by the length of names, numbered ones that are padded to it, beside 7 bytes"
+printf '%9s %9s %8s %8s %6s %14s\n' entries names mps "of 7" times "bytes an entry"
+for order in ordered mixed; do
+    python3 "$here/generate.py" mps "$work/seven.mps" "${sizes[0]}" "${order}7"
+    for length in 8 16; do
+        python3 "$here/generate.py" mps "$work/names.mps" "${sizes[0]}" "$order$length"
+        times=$(measure 0 "$program" mps "$work/names.mps" ::: 0 "$program" mps "$work/seven.mps")
+        read -r seconds peak beside _ <<<"$times"
+        printf '%9s %9s %8s %8s %6s %14s\n' "${sizes[0]}" "$order$length" "$seconds" "$beside" "$(ratio "$seconds" "$beside")" \
+            "$(bytes_each "$peak" "${sizes[0]}")"
+    done
+done
+
+echo
 echo "verify_mps beside verify of the same program as .nl: that the point 0 is feasible"
 printf '%9s %10s %8s %6s %8s %14s %13s\n' terms verify_mps verify ratio "floor's" "bytes an entry" "verify: bytes"
 printf 'certificate 1\nfeasible 0\npoint 0\n' >"$work/feasible.certificate"

@@ -13,60 +13,80 @@ from __future__ import annotations
 import re
 import sys
 from collections.abc import Iterable, Iterator, Mapping
+from dataclasses import dataclass
+from functools import cache
 from pathlib import Path
-from typing import NamedTuple
 
 from shared import TOP, asked, own_uses
+from signatures import Function, functions_of
 
 PAGE = TOP / "docs" / "verify" / "calls.md"
 TESTS = ("call_tests", "command_tests")
 
 HANDED = re.compile(r"^pub use (?:\w+::)*(?:(\w+)|\{([^}]*)\});", re.M)
 OPENED = re.compile(r"^pub mod (\w+);", re.M)
-IMPL = re.compile(
-    r"^impl(?:<[^{;]*?>)? (?:(?P<trait>[\w:]+)(?:<[^{]*?>)? for )?(?P<type>\w+)", re.M
-)
-LABEL = re.compile(r"^\s*ensures(?: (\w+))? \{", re.M)
-MEMORY = re.compile(r"AllocError|Stop<|Answer>")
+MADE_OF_MEMORY = re.compile(r"^impl(?:<[^{;]*?>)? From<AllocError> for (\w+)", re.M)
+COMMENT = re.compile(r"^\s*//.*$", re.M)
 
 
-class Call(NamedTuple):
-    """A function with a body: its crate, its type (or none), its name, its signature with clauses, and its comment."""
+@cache
+def errors_of_memory() -> frozenset[str]:
+    """The types of errors that may say want of memory: `AllocError`, and each that is made of one."""
+    texts = (path.read_text() for path in (TOP / "crates").glob("*/src/**/*.rt"))
+    return frozenset({"AllocError"}.union(*map(MADE_OF_MEMORY.findall, texts)))
+
+
+def error_of(result: str) -> str:
+    """The name of the error of a `Result`, without its parameters; empty where the type is none."""
+    if not (result.startswith("Result<") and result.endswith(">")):
+        return ""
+    depth = 0
+    start = len("Result<")
+    for place, sign in enumerate(result):
+        depth += (sign in "<([") - (sign in ">)]" and result[place - 1 : place + 1] != "->")
+        if sign == "," and depth == 1:
+            start = place + 1
+    return result[start:-1].partition("<")[0].rpartition("::")[2]
+
+
+@dataclass(frozen=True)
+class Call:
+    """A public function, and the crate that it is of."""
 
     crate: str
-    kind: str
-    word: str
-    head: str
-    words: str
+    function: Function
 
     @property
     def name(self) -> str:
-        return f"{self.kind}::{self.word}" if self.kind else self.word
+        kind = self.function.kind
+        return f"{kind}::{self.function.name}" if kind else self.function.name
 
     @property
     def wants_memory(self) -> bool:
-        return bool(MEMORY.search(self.head.partition("->")[2].split("\n")[0]))
+        return error_of(self.function.result) in errors_of_memory()
 
     def made_in(self, texts: Mapping[str, str]) -> list[str]:
         """The files of tests that make it."""
+        kind = self.function.kind
+        word = self.function.name
         made = re.compile(
-            rf"\b{self.kind}::{self.word}\(|\.{self.word}\("
-            if self.kind
-            else rf"\b{self.word}\b[(<:]"
+            rf"\b{kind}::{word}\(|\.{word}\(" if kind else rf"(?<![.:\w]){word}\b(?:\(|::<|<)"
         )
         return [
             name
             for name, text in texts.items()
-            if made.search(text) and (self.kind in text or self.word not in ("new", "push"))
+            if made.search(text) and (kind in text or word not in ("new", "push"))
         ]
 
     def told(self, texts: Mapping[str, str]) -> str:
-        clauses = ", ".join(label or "its clause" for label in LABEL.findall(self.head)) or "none"
+        """Its line in the list, and its comment."""
+        ensured = (it.label for it in self.function.clauses if it.keyword == "ensures")
+        clauses = ", ".join(label or "its clause" for label in ensured) or "no clause"
         tests = ", ".join(self.made_in(texts))
         return (
             f"{self.crate}: {self.name}: {clauses}{'; memory' if self.wants_memory else ''}"
             + (f"; {tests}" if tests else "")
-            + (f"\n    {self.words}" if self.words else "")
+            + (f"\n    {self.function.words}" if self.function.words else "")
         )
 
 
@@ -80,30 +100,6 @@ def handed_out(root: str) -> set[str]:
             else {word.strip().split(" as ")[0].split("::")[-1] for word in many.split(",")}
         )
     return found - {""}
-
-
-def functions(crate: str, text: str) -> Iterator[Call]:
-    """Those of a file that say `pub`, without what a trait asks for."""
-    start = 0
-    for block in re.split(r"\n(?=\S)", text):
-        found = IMPL.match(block.lstrip("\n"))
-        indent = 4 if found else 0
-        for at in (
-            re.finditer(r"^ {%d}pub fn (\w+)" % indent, block, re.M)
-            if not (found and found["trait"])
-            else ()
-        ):
-            end = re.compile(r"^ {%d}\{|;$" % indent, re.M).search(block, at.end())
-            above = text[: start + at.start()].rpartition("\n\n")[2].splitlines()
-            words = " ".join(line.strip(" /") for line in above if line.lstrip().startswith("///"))
-            yield Call(
-                crate,
-                found["type"] if found else "",
-                at[1],
-                block[at.start() : end.start() if end else len(block)],
-                words,
-            )
-        start += len(block) + 1
 
 
 def calls(crates: Iterable[str]) -> Iterator[Call]:
@@ -127,15 +123,15 @@ def calls_below(crate: str, root: Path) -> Iterator[Call]:
     for path in sorted(source.rglob("*.rt")):
         module = path.relative_to(source).parts[0].removesuffix(".rt")
         is_open = path == root or module in opened
-        for it in functions(crate, path.read_text()):
-            if is_open or (it.kind or it.word) in handed:
-                yield it
+        for function in functions_of(path.read_text()):
+            if is_open or (function.kind or function.name) in handed:
+                yield Call(crate, function)
 
 
 def texts_of_tests() -> dict[str, str]:
-    """The texts of the crates of tests, by the name of the file."""
+    """The texts of the crates of tests without their comments, by the name of the file."""
     return {
-        path.stem: path.read_text()
+        path.stem: COMMENT.sub("", path.read_text())
         for crate in TESTS
         for path in sorted((TOP / "crates" / crate / "src").glob("*.rt"))
     }

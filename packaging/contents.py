@@ -17,6 +17,7 @@ try:
 except ImportError:
     raise SystemExit("packaging/build: needs Python 3.11 or later") from None
 
+from sbom import sbom
 from sources import BUILT, TOP, TRIED, fault_of, said_by
 
 sys.path.insert(0, os.path.join(TOP, "drivers"))
@@ -205,6 +206,11 @@ class Project:
             raise Unfit("links that lead nowhere: " + ", ".join(dead))
         return found
 
+    def sbom(self) -> File:
+        """What the packages are made of, for tools."""
+        text = sbom(self.name, self.version, self.toolchain, self.program, self.epoch)
+        return File(f"{self.name}.spdx.json", text)
+
     def completions(self, zsh: str) -> Iterator[File]:
         """Where shells look for them below PREFIX/share; `zsh` is zsh's folder. Those of bash and
         fish are one text under the name of each command."""
@@ -226,7 +232,7 @@ class Project:
             os.path.dirname(program): [File("bridge", self.program, 0o755)],
             f"{share}/minizinc/solvers": self.configurations(),
             os.path.dirname(share): self.completions(zsh),
-            f"{share}/doc/{self.name}": self.documents(),
+            f"{share}/doc/{self.name}": [*self.documents(), self.sbom()],
             f"{share}/{self.name}/examples": examples,
         }
         return [

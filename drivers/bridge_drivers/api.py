@@ -263,7 +263,8 @@ def _explanation(model: ReadModel, source: Source) -> Explanation:
     program, note = None, ""
     try:
         objective = certificate.objective or 0
-        program = whole_form(model.bridge, model.path, model.program(objective)).program
+        exported = model.program(objective)
+        program = whole_form(model.bridge, model.path, exported, objective).program
     except (ProgramFailed, UnsupportedModel) as fault:
         note = f"without bounds: {fault}"
     return Explanation(

@@ -110,6 +110,21 @@ def write_optima(folder: Path) -> None:
             print(path.stem, exact_optimum(path), sep="\t", file=out, flush=True)
 
 
+def objective_constant(path: Path) -> Fraction:
+    """What an MPS file adds to its objective, which QSopt_ex leaves out: minus the side of its first
+    N row."""
+    words = [line.split() for line in path.read_text("latin-1").split("\n")]
+    objective = next(line[1] for line in words if line[:1] == ["N"] and len(line) == 2)
+    sides = words[words.index(["RHS"]) :]
+    for line in sides:
+        if line and line[0] in ("RANGES", "BOUNDS", "ENDATA"):
+            break
+        for name, side in zip(line, line[1:]):
+            if name == objective:
+                return -Fraction(side)
+    return Fraction(0)
+
+
 def exact_optimum(path: Path) -> str:
     """The optimum as a fraction; empty where there is none in time."""
     with tempfile.TemporaryDirectory() as folder:
@@ -122,7 +137,8 @@ def exact_optimum(path: Path) -> str:
             return ""
     if "OPTIMAL" not in lines[0]:
         return ""
-    return next(line.split("=")[1].strip() for line in lines if "Value" in line)
+    told = next(line.split("=")[1] for line in lines if "Value" in line)
+    return str(Fraction(told.strip()) + objective_constant(path))
 
 
 def optima(folder: Path) -> Dict[str, Fraction]:

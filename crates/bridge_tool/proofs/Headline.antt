@@ -2,8 +2,9 @@
 use Rattle.std.proofs.Common.{◌≡◌, ◌∙◌, ℕ, List, Option, Some, None, true, false, Bool, refl, sym, inl, inr, ◌⊎◌, ◌<◌, ◌≤◌, IfSome, subst, arith, ◌≢◌}
 use Rattle.std.specs.Prelude.{codes}
 use Rattle.text_base.specs.Desk.{Texts, Meaning, Rose, OnlyMessages}
+use Rattle.bridge_tool.specs.Certified.{IsCertifiedTrue, IsNotShown}
 use Rattle.bridge_tool.specs.Check.{IsCertified, IsNotCertified}
-use Rattle.bridge_tool.specs.Command.{Command, Check, Export, Rewrite, command_of, Prove, Verify, Make, Return, NamedExport, NamedReturn}
+use Rattle.bridge_tool.specs.Command.{Command, Check, Export, Rewrite, command_of, Prove, Verify, Certified, Make, Return, NamedExport, NamedReturn}
 use Rattle.bridge_tool.specs.Commands.{promise_of, promise_by, ComesTo}
 use Rattle.bridge_tool.specs.Export.{IsExportMeant}
 use Rattle.bridge_tool.specs.Make.{make_promise}
@@ -13,6 +14,7 @@ use Rattle.bridge_tool.specs.Prove.{IsLeftOpen, IsProvedOf}
 use Rattle.bridge_tool.specs.Return.{IsReturnMeant}
 use Rattle.bridge_tool.specs.Verify.{IsDenied, IsVerified, claim_row_of}
 use Rattle.bridge_tool.proofs.Programs.{claim_last, claimed}
+use Rattle.bridge_tool.proofs.Certifying.{certified_last}
 use Rattle.bridge_tool.proofs.Verdicts.{check_last, prove_last}
 use Rattle.command_parts.proofs.TextsRead.{nl_read}
 use Rattle.bridge_tool.proofs.Exporting.{export_last}
@@ -47,6 +49,7 @@ told_has_one texts (Rewrite of file) = (last_sound (last_of of) (λ value bytes.
 told_has_one texts (Check nl sol) = (both_sound nl_read check_last (λ nl s bytes. IsCertified nl s) IsNotCertified nl sol texts).one
 told_has_one texts (Prove nl proof) = (both_sound nl_read prove_last (λ nl p bytes. IsProvedOf nl p) IsLeftOpen nl proof texts).one
 told_has_one texts (Verify of first certificate) = let row = claim_row_of of in (both_sound (claimed of).read (claim_last row (claimed of)) (IsVerified row) (IsDenied row) first certificate texts).one
+told_has_one texts (Certified nl certificate) = (both_sound nl_read certified_last IsCertifiedTrue IsNotShown nl certificate texts).one
 told_has_one texts (Return nl answer) = (both_sound nl_read return_last (λ nl a bytes. IsReturnMeant nl a) (λ nl. NoVerdict) nl answer texts).one
 told_has_one texts (NamedExport file k rows columns) = (listed_sound false 2 file rows columns (named_next k columns) (named_next_sound k columns) texts).one
 told_has_one texts (NamedReturn nl answer rows columns) = (listed_sound false 3 nl rows columns (return_next answer) (return_next_sound answer) texts).one
@@ -63,6 +66,7 @@ untold_has_one (Make seed size) = any_of (make_promise seed size).comes (make_on
 untold_has_one (Check nl sol) = untold true
 untold_has_one (Prove nl proof) = untold true
 untold_has_one (Verify of first certificate) = untold true
+untold_has_one (Certified nl certificate) = untold true
 untold_has_one command = untold false
 
 has_one : (texts : Option Texts) (c : Option Command) → HasOne Any (promise_by texts c).comes

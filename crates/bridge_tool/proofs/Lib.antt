@@ -3,6 +3,8 @@ pub mod DrawLemmas
 pub mod NumberLemmas
 pub mod RowLemmas
 pub mod Drafting
+pub mod Duals
+pub mod Certifying
 pub mod Exporting
 pub mod FileLimits
 pub mod Headline
@@ -10,6 +12,7 @@ pub mod InstanceFiles
 pub mod InstanceNumbers
 pub mod InstanceTexts
 pub mod Making
+pub mod Messages
 pub mod NamedExporting
 pub mod Numbers
 pub mod OneFile

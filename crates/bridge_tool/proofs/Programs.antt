@@ -173,6 +173,10 @@ none_mapped : {A B : Type 0} (f : A → B) (o : Option A) → option_map f o ≡
 none_mapped f None e = refl
 none_mapped f (Some x) e = absurd cc
 
+-- a file that has a linear program folds
+pub folds_clean : (nl : NlValue) (k : ℕ) → nl_claim_row.no_linear nl k ≡ None → fold_fault nl.file k ≡ None
+folds_clean nl k none = none_mapped (named_fault nl.file) (fold_fault nl.file k) (none_mapped (fold_line nl.places) (first_fold_fault nl.file k) none)
+
 lines_say : (layout : Layout) (text : List ℕ) (m : Mps Dec) → HasProgram layout text m → IsSaidIn layout (lines_of text) m
 lines_say Free text m h = h.says.said
 lines_say Fixed text m h = h.says.said
@@ -191,9 +195,7 @@ claimed Nl = record {
   idle = λ nl k n. omega arith;
   states = λ text nl k (h : IsNl text nl). ap (λ f. problem_of f k) h.said.file;
   over = λ nl k. file_setting nl.file k;
-  means = λ text nl k h none. file_meant nl.file k (text_file text nl h)
-      (none_mapped (named_fault nl.file) (fold_fault nl.file k)
-      (none_mapped (fold_line nl.places) (first_fold_fault nl.file k) none));
+  means = λ text nl k h none. file_meant nl.file k (text_file text nl h) (folds_clean nl k none);
 }
 claimed (MpsIn layout) = record {
   read = program_read layout;
@@ -221,7 +223,7 @@ module _ (f : Linear) (c : CertificateValue) (h : IsCertificateOf f c) where
   pub bound_fits : HasFittingBound c.claim
   bound_fits = fits_for c.claim h.given h.asked
 
-  back : given_in c ≡ h.given
+  pub back : given_in c ≡ h.given
   back = given_back c h.given h.point h.ray h.nodes h.pairs
 
   -- what was judged is what is shown
@@ -230,7 +232,7 @@ module _ (f : Linear) (c : CertificateValue) (h : IsCertificateOf f c) where
 
   module _ (p : Problem) (means : Means f p) where
     -- what a verdict says of a problem that the linear program means
-    abbrev Says : ℕ → ℕ → Given → ClaimOutcome → Type 0
+    abbrev pub Says : ℕ → ℕ → Given → ClaimOutcome → Type 0
     Says n m g (holds value) = IsToldTrue p (spread n g.point) (told_claim c.claim value)
     Says n m g (fails cause) = Denies p f (certificate_over n m c.claim g) cause
 
@@ -239,7 +241,7 @@ module _ (f : Linear) (c : CertificateValue) (h : IsCertificateOf f c) where
     says (fails cause) e = told_denied f p means c h cause e
 
     -- it is so of what is shown
-    says_so : Says p.variables p.constraints (given_in c) (claim_shown f c)
+    pub says_so : Says p.variables p.constraints (given_in c) (claim_shown f c)
     says_so =
         subst (λ (g : Given). Says p.variables p.constraints g (claim_outcome f c.claim g)) (sym back)
         (subst (λ n. Says n p.constraints h.given (claim_outcome f c.claim h.given)) (sym means.variables)

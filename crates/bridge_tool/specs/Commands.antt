@@ -3,7 +3,8 @@ use Rattle.std.specs.Prelude.{◌≡◌, ℕ, List}
 use Rattle.std.specs.declared.option.Option.{Option}
 use Rattle.std.specs.declared.option.Option.TheVariants.{None, Some}
 use Rattle.text_base.specs.Desk.{Texts, Meaning}
-use Rattle.bridge_tool.specs.Command.{Command, Check, Export, Rewrite, command_of, Prove, Verify, Make, Return, NamedExport, NamedReturn}
+use Rattle.bridge_tool.specs.Command.{Command, Check, Export, Rewrite, command_of, Prove, Verify, Certified, Make, Return, NamedExport, NamedReturn}
+use Rattle.bridge_tool.specs.Certified.{certified_promise}
 use Rattle.bridge_tool.specs.Check.{check_promise}
 use Rattle.bridge_tool.specs.Export.{export_promise}
 use Rattle.bridge_tool.specs.Make.{LeavesInput, make_promise}
@@ -23,6 +24,7 @@ promise_of texts (Check nl sol) = check_promise texts nl sol
 promise_of texts (Prove nl proof) = prove_promise texts nl proof
 promise_of texts (Verify of first certificate) =
     verify_promise texts (claim_row_of of) first certificate
+promise_of texts (Certified nl certificate) = certified_promise texts nl certificate
 promise_of texts (Return nl answer) = return_promise texts nl answer
 promise_of texts (NamedExport file objective rows columns) =
     named_promise texts file objective rows columns

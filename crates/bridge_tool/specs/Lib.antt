@@ -2,6 +2,7 @@ pub mod Draws
 pub mod Instance
 pub mod InsideMaking
 pub mod ByText
+pub mod Certified
 pub mod Check
 pub mod Claims
 pub mod Command

@@ -1,6 +1,7 @@
 // The commands of the bridge, over any desk, and instances to try them with.
 #![tactic(auto)]
 
+mod certified;
 mod check;
 mod command;
 mod draws;

@@ -5,6 +5,7 @@ ghost use Rattle.linear_program.specs.Programs.{linear_value};
 ghost use Rattle.nl_model.specs.Rules.{IsFile};
 ghost use Rattle.nl_segments.specs.Reader.{HasLines, value_of};
 ghost use Rattle.certificates.specs.Certificates.{IsCertificateOf, claim_objective};
+ghost use Rattle.certificate_judge.specs.Outcomes.{outcome_of};
 ghost use Rattle.problems.specs.Files.{IsCertificateIn};
 ghost use Rattle.command_core.specs.InsideAnswer.{IsCounted};
 ghost use Rattle.command_core.specs.Outcome.{Done};
@@ -13,7 +14,7 @@ ghost use Rattle.command_parts.specs.Stages.{fold_steps};
 ghost use Rattle.bridge_tool.specs.Verify.{by_linear, claim_shown, nl_claim_row, verify_outcome, verify_promise};
 
 use crate::verify_mps::Layout;
-use certificate_judge::check_certificate;
+use certificate_judge::{Outcome, check_certificate};
 use certificates::Certificate;
 use command_core::{Answer, Refusal, end};
 use command_parts::{claim_objective, fold_read, is_held, open_certificate, open_nl, outcome_line};
@@ -32,8 +33,22 @@ pub(crate) enum ProblemText {
     Mps(Layout),
 }
 
-/// Whether the claim holds in a linear program, which is let go as soon as its rows are held, and
-/// the line of the verdict.
+/// What a certificate comes to in a linear program, which is let go as soon as its rows are held.
+pub(crate) fn outcome_on(
+    alloc: Global,
+    linear: Linear,
+    certificate: &Certificate,
+) -> Result<Outcome, AllocError>
+    requires { IsCertificateOf (linear_value linear) certificate.now }
+    ensures { IfOk result (λ o. outcome_of o
+        ≡ claim_shown (linear_value linear) certificate.now) }
+{
+    let program = Program::from_linear(alloc, linear)?;
+    let outcome = check_certificate(alloc, &program, certificate)?;
+    Ok(outcome)
+}
+
+/// Whether the claim holds in a linear program, and the line of the verdict.
 pub(crate) fn verdict_on(
     alloc: Global,
     linear: Linear,
@@ -43,8 +58,7 @@ pub(crate) fn verdict_on(
     ensures { IfOk result (λ t. Done t.0 t.1.items ≡ by_linear certificate.now
         (claim_shown (linear_value linear) certificate.now) None) }
 {
-    let program = Program::from_linear(alloc, linear)?;
-    let outcome = check_certificate(alloc, &program, certificate)?;
+    let outcome = outcome_on(alloc, linear, certificate)?;
     let line = outcome_line(alloc, certificate.claim(), outcome)?;
     Ok((is_held(outcome), line))
 }

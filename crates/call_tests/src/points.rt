@@ -5,6 +5,7 @@ use certificate_check::{BoundVerdict, Columns, Goal, Spot, Verdict, certify, dua
 use exact_numbers::{Dec, Frac};
 use example_texts::nl_texts::{one_row, text_of};
 use linear_fold::fold_all;
+use linear_program::empty_columns;
 use nl_model::NlFile;
 use nl_segments::read_nl;
 use std::alloc::Global;
@@ -78,5 +79,13 @@ fn a_file_is_judged(rt: HostRuntime) {
     for (lo, hi, wanted) in bounds {
         assert!(rt; bound_on(&columns, &[lo], &[hi], &[one]) == Some(wanted));
     }
+    drop(columns);
+}
+
+#[test]
+fn columns_begin_without_terms(rt: HostRuntime) {
+    let columns: Vec<Vec<(u32, Dec)>> = empty_columns(rt.alloc(), &[2, 0]).expect(&rt, "memory");
+    assert!(rt; columns.len() == 2);
+    assert!(rt; columns.iter().all(|column| column.is_empty()));
     drop(columns);
 }

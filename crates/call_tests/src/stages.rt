@@ -1,9 +1,10 @@
 // The stages of an export, one after the other.
 ghost use Rattle.std.specs.Prelude.{◌≡◌, ◌<◌};
 
+use crate::segments::file_of;
 use exact_numbers::{Dec, Frac};
 use example_texts::nl_texts::{KNAPSACK, KNAPSACK_WRITTEN};
-use linear_fold::{Form, Linear, Pad, fold_all};
+use linear_fold::{Form, Linear, Pad, fold_all, fold_file};
 use mps_writer::write_mps;
 use nl_model::NlFile;
 use nl_segments::read_nl;
@@ -126,5 +127,34 @@ fn decimals_are_kept(rt: HostRuntime) {
     let terms = [(0, Dec::of_whole(5)), (1, Dec::of_whole(4)), (2, last)];
     let is_kept = keeps_decimals::<Brand>(rt.alloc(), &read.file, &terms, Blank::new(1));
     drop(read);
+    assert!(rt; is_kept);
+}
+
+// The same of a file that is let go.
+fn hands_on_decimals<L: Ledger>(
+    alloc: Global,
+    file: NlFile,
+    wanted: &[(u32, Dec)],
+    blank: Blank,
+) -> bool
+    requires name { blank.name ≡ L.name }
+    requires parts { blank.parts ≡ L.parts }
+    requires some { 0 < blank.parts }
+{
+    let mut steps = Steps::<L>::new(blank);
+    let Ok(linear) = fold_file(alloc, file, 0, &mut steps) else {
+        return false;
+    };
+    let is_kept = first_decimals(&linear) == Some(wanted);
+    drop(linear);
+    is_kept
+}
+
+#[test]
+fn decimals_are_handed_on(rt: HostRuntime) {
+    let file = file_of(&rt, rt.alloc(), KNAPSACK);
+    let last = Dec::new(65, -1).expect(&rt, "a number");
+    let terms = [(0, Dec::of_whole(5)), (1, Dec::of_whole(4)), (2, last)];
+    let is_kept = hands_on_decimals::<Brand>(rt.alloc(), file, &terms, Blank::new(1));
     assert!(rt; is_kept);
 }

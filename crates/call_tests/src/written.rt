@@ -4,6 +4,7 @@ ghost use Rattle.std.specs.Prelude.{◌≡◌};
 use crate::programs::is_program;
 use exact_numbers::Dec;
 use mps_model::{BoundKind, MpsBuilder, RowKind};
+use mps_writer::put_change;
 use std::alloc::Global;
 use std::process::Abort;
 use text_base::Name;
@@ -71,5 +72,19 @@ fn words_of_lines_are_written(rt: HostRuntime) {
     let mut out = Vec::new(rt.alloc());
     put_words(&rt, &mut out, half);
     assert!(rt; out.as_slice() == WORDS);
+    drop(out);
+}
+
+const MARKERS: &[u8] = b" M0 'MARKER' 'INTORG'\n M1 'MARKER' 'INTEND'\n";
+
+// A marker line stands before the first of whole columns, and behind the last.
+#[test]
+fn whole_columns_are_marked(rt: HostRuntime) {
+    let mut out = Vec::new(rt.alloc());
+    let before = put_change(&mut out, false, true, 0).expect(&rt, "memory");
+    let between = put_change(&mut out, true, true, 1).expect(&rt, "memory");
+    let behind = put_change(&mut out, true, false, 1).expect(&rt, "memory");
+    assert!(rt; before == 1 && between == 1 && behind == 2);
+    assert!(rt; out.as_slice() == MARKERS);
     drop(out);
 }

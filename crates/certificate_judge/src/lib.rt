@@ -14,5 +14,6 @@ mod sides;
 mod walk;
 
 pub use check::check_certificate;
+pub use given::numbers_of;
 pub use outcome::{Cause, LeafFault, Outcome, PointFault, RayFault};
 pub use walk::check_tree;

@@ -9,7 +9,8 @@ use std::alloc::Global;
 use std::process::Abort;
 
 // Of ONE_WHOLE: an answer; one with the name `n` for its row and its column; the optimum of the
-// relaxed program; a point that is feasible, and not the best; the whole optimum with its tree.
+// relaxed program; a point that is feasible, and not the best; the whole optimum with its tree; a
+// claim that does not hold.
 const ANSWER: &str = "answer 1\nstatus 0\nmessage done\ncol x0 2\nrow c0 0.5\n";
 
 const NAMED: &str = "answer 1\nstatus 0\nmessage done\ncol n 2\nrow n 0.5\n";
@@ -20,6 +21,8 @@ const WORSE: &str = "done\n\nOptions\n0\n1\n1\n1\n1\n0.5\n2\n";
 
 const BEST_WHOLE: &str =
     "certificate 1\noptimal 0\npoint 1\n0 2\nsplit 0 1\nweights 1\n0 1\nduals 0\n";
+
+const NOT_BEST: &str = "certificate 1\noptimal 0\npoint 1\n0 3\nduals 0\n";
 
 // A command, the texts that it starts, and its status where no call fails.
 #[derive(Clone, Copy)]
@@ -233,6 +236,8 @@ fn calls_of_commands_fail(rt: HostRuntime) {
         of_two("check", ONE_WHOLE, WORSE, 1),
         of_two("prove", ONE_WHOLE, TWO_LEAVES, 0),
         of_two("verify", ONE_WHOLE, BEST_WHOLE, 0),
+        of_two("certified", ONE_WHOLE, BEST_WHOLE, 0),
+        of_two("certified", ONE_WHOLE, NOT_BEST, 1),
     ];
     for case in cases {
         assert!(rt; is_the_same_in_bytes(&rt, rt.alloc(), &case));

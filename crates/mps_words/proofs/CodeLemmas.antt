@@ -2,7 +2,7 @@
 use Rattle.std.proofs.Common.{◌≡◌, ◌≢◌, ◌∙◌, ℕ, zero, suc, ◌+◌, ◌-◌, ◌*◌, ◌/◌, ◌%◌, ◌<◌, ◌≤◌, ◌^◌, List, [], ◌∷◌, ◌++◌}
 use Rattle.std.proofs.Common.{Bool, true, false, length, map, take, drop, set, get_or, nat_eq, Option, Some, None, refl}
 use Rattle.std.proofs.Common.{sym, ap, arith, subst, Fits, w8, not, ◌==◌, ◌⊎◌, inl, inr}
-use Rattle.std.specs.Prelude.{All, AllPairs, IfSome, nat_le, fold, slice_get, option_map, unwrap_or}
+use Rattle.std.specs.Prelude.{All, AllPairs, IfSome, nat_le, nat_lt, fold, slice_get, option_map, unwrap_or}
 use Rattle.std.specs.List.{position, list_any}
 use Rattle.indexmap.specs.IndexSet.{insert_key}
 use Rattle.std.specs.Str.{bytes_eq}
@@ -18,22 +18,22 @@ use Rattle.std.proofs.lemmas.List.Sums.{fold_push, fails_before_first}
 use Rattle.std.proofs.lemmas.Option.{slice_get-map}
 use Rattle.std.proofs.lemmas.List.Folds.{list_any_none}
 use Rattle.std.proofs.Math.Seq.{get_or-append_seam}
-use Rattle.text_base.specs.Names.{IsName, is_name}
-use Rattle.mps_words.specs.InsideCodes.{with_byte, bytes_code, code_of, last_bytes, name_of, AreBytes, HaveCodes, NoneOrLong}
+use Rattle.text_base.specs.Names.{IsName, is_name, has_name_bytes}
+use Rattle.mps_words.specs.InsideCodes.{with_byte, bytes_code, code_of, is_short, last_bytes, name_of, AreBytes, HaveCodes, NoneOrLong}
 use Rattle.text_base.specs.Names.{place_of}
 use Rattle.mps_words.specs.Names.{last_name}
 use Rattle.mps_words.proofs.LastLemmas.{last_name-slice}
 use Rattle.text_base.proofs.NamePlaces.{past_all, place_at, place_none, place_some, bytes_differ, bytes_same}
 pub use Rattle.text_base.proofs.NameTests.{tested_name as named}
 use Rattle.std.proofs.lemmas.List.Quantifiers.{all_pairs_push, position-Some}
-use Rattle.std.proofs.lemmas.Bool.{leb-true, lt-leb, le-leb, eq-eqb, ne_eqb, cases_Bool}
+use Rattle.std.proofs.lemmas.Bool.{and_parts, leb-true, ltb-true, lt-ltb, lt-leb, le-leb, eq-eqb, ne_eqb, cases_Bool}
 
 -- ---- sizes
 
-most : (n : ℕ) → n ≤ 6 → 256 ^ n ≤ 256 ^ 6
+most : (n : ℕ) → n ≤ 7 → 256 ^ n ≤ 256 ^ 7
 most n le = pow-le-pow_right (omega arith) le
 
-pub code_fits : (code b place : ℕ) → code < 2 * 256 ^ place → b < 256 → place < 7 → code * 256 + b < 2 ^ 64
+pub code_fits : (code b place : ℕ) → code < 256 ^ place → b < 256 → place < 8 → code * 256 + b < 2 ^ 64
 code_fits code b place small byte le = omega (arith, small, byte, most place (omega (arith, le)))
 
 -- ---- the name of a code
@@ -45,17 +45,18 @@ code_on : (code : ℕ) (bytes : List ℕ) → 0 < code → 0 < fold with_byte co
 code_on code [] some = some
 code_on code (b ∷ bytes) some = code_on (with_byte code b) bytes (omega (arith, some))
 
-pub some_code : (bytes : List ℕ) → 0 < bytes_code bytes
-some_code bytes = code_on 1 bytes (omega arith)
+pub some_code : (bytes : List ℕ) → 0 < get_or bytes 0 0 → 0 < bytes_code bytes
+some_code [] first = absurd (omega (arith, first))
+some_code (b ∷ bytes) first = code_on (0 * 256 + b) bytes (omega (arith, first))
 
 -- a number with one more byte has one more byte
-more_bytes : (n code b : ℕ) → 0 < code → b < 256 → last_bytes (suc n) (code * 256 + b) ≡ last_bytes n code ++ b ∷ []
+more_bytes : (n code b : ℕ) → 0 < code * 256 + b → b < 256 → last_bytes (suc n) (code * 256 + b) ≡ last_bytes n code ++ b ∷ []
 unfolding last_bytes
 more_bytes n code b some byte =
-    let large : nat_le (code * 256 + b) 255 ≡ false = lt-leb (code * 256 + b) 255 (omega (arith, some)) in
+    let large : nat_le (code * 256 + b) 0 ≡ false = lt-leb (code * 256 + b) 0 some in
     rw (large, div-mul-add code 256 b byte, mod-mul-add code 256 b byte) refl
 
-no_bytes : (n : ℕ) → last_bytes n 1 ≡ []
+no_bytes : (n : ℕ) → last_bytes n 0 ≡ []
 unfolding last_bytes
 no_bytes zero = refl
 no_bytes (suc n) = refl
@@ -66,17 +67,26 @@ by_end b bytes =
     let within : length bytes < length (b ∷ bytes) = omega arith in
     sym (take_all (length bytes + 1) (b ∷ bytes) (omega arith)) ∙ take_more (b ∷ bytes) (length bytes) 0 within
 
-pub bytes_back : (n : ℕ) (bytes : List ℕ) → length bytes ≤ n → AreBytes bytes → last_bytes n (bytes_code bytes) ≡ bytes
-bytes_back n [] few h = no_bytes n
-bytes_back zero (b ∷ bytes) few h = absurd (omega (arith, few))
-bytes_back (suc n) (b ∷ bytes) few h =
+-- the first byte is there, and not 0, where any is
+abbrev StartsSome : List ℕ → Type 0
+StartsSome bytes = 0 < length bytes → 0 < get_or bytes 0 0
+
+starts_front : (n : ℕ) (b : ℕ) (bytes : List ℕ) → 0 < b → StartsSome (take n (b ∷ bytes))
+starts_front zero b bytes first = λ some. absurd (omega (arith, some))
+starts_front (suc n) b bytes first = λ some. first
+
+pub bytes_back : (n : ℕ) (bytes : List ℕ) → length bytes ≤ n → AreBytes bytes → StartsSome bytes → last_bytes n (bytes_code bytes) ≡ bytes
+bytes_back n [] few h first = no_bytes n
+bytes_back zero (b ∷ bytes) few h first = absurd (omega (arith, few))
+bytes_back (suc n) (b ∷ bytes) few h first =
+    let begins : 0 < b = first (omega arith) in
     let front = take (length bytes) (b ∷ bytes) in
     let last = get_or (b ∷ bytes) (length bytes) 0 in
     let within : length bytes < length (b ∷ bytes) = omega arith in
-    let code : bytes_code (b ∷ bytes) ≡ bytes_code front * 256 + last = ap bytes_code (by_end b bytes) ∙ fold_push with_byte 1 front last in
+    let code : bytes_code (b ∷ bytes) ≡ bytes_code front * 256 + last = ap bytes_code (by_end b bytes) ∙ fold_push with_byte 0 front last in
     let size : length front ≤ n = omega (arith, few, length-take-le (length bytes) (b ∷ bytes) (omega arith)) in
-    let back : last_bytes n (bytes_code front) ≡ front = bytes_back n front size (All-take (λ (c : ℕ). c < 256) (length bytes) (b ∷ bytes) h) in
-    ap (last_bytes (suc n)) code ∙ more_bytes n (bytes_code front) last (some_code front)
+    let back : last_bytes n (bytes_code front) ≡ front = bytes_back n front size (All-take (λ (c : ℕ). c < 256) (length bytes) (b ∷ bytes) h) (starts_front (length bytes) b bytes begins) in
+    ap (last_bytes (suc n)) code ∙ more_bytes n (bytes_code front) last (omega (arith, code, some_code (b ∷ bytes) begins))
     (All-get_or (λ (c : ℕ). c < 256) (b ∷ bytes) (length bytes) 0 within h)
     ∙ ap (λ (cs : List ℕ). cs ++ last ∷ []) back ∙ sym (by_end b bytes)
 
@@ -85,13 +95,13 @@ unfolding last_bytes
 few_bytes zero code = omega arith
 few_bytes (suc n) code =
     let fewer = few_bytes n (code / 256) in
-    elim (cases_Bool (nat_le code 255)) [
+    elim (cases_Bool (nat_le code 0)) [
       | inl e ↦ rw e (omega arith)
       | inr e ↦ rw e (omega (arith, fewer, length-append (last_bytes n (code / 256)) (code % 256 ∷ [])))
     ]
 
 -- the last byte is written before those behind it
-pub byte_written : (bytes : List ℕ) (place left : ℕ) → 0 < place → place ≤ length bytes → 255 < left
+pub byte_written : (bytes : List ℕ) (place left : ℕ) → 0 < place → place ≤ length bytes → 0 < left
     → last_bytes (place - 1) (left / 256) ++ drop (place - 1) (set bytes (place - 1) (left % 256))
     ≡ last_bytes place left ++ drop place bytes
 unfolding last_bytes
@@ -99,50 +109,78 @@ byte_written bytes zero left some within more = absurd (omega (arith, some))
 byte_written bytes (suc n) left some within more =
     let before : suc n - 1 ≡ n = omega arith in
     let next : n + 1 ≡ suc n = omega arith in
-    let large : nat_le left 255 ≡ false = lt-leb left 255 more in
+    let large : nat_le left 0 ≡ false = lt-leb left 0 more in
     let written : drop n (set bytes n (left % 256)) ≡ left % 256 ∷ drop (suc n) bytes = drop-set bytes n (left % 256) (omega (arith, within)) ∙ ap (λ (k : ℕ). left % 256 ∷ drop k bytes) next in
     ap (λ (k : ℕ). last_bytes k (left / 256) ++ drop k (set bytes k (left % 256))) before
     ∙ ap (λ (bs : List ℕ). last_bytes n (left / 256) ++ bs) written
     ∙ rw large (sym (append_assoc (last_bytes n (left / 256)) (left % 256 ∷ []) (drop (suc n) bytes)))
 
-pub all_written : (place left : ℕ) → (place ≡ 0) ⊎ (left ≤ 255) → last_bytes place left ≡ []
+pub all_written : (place left : ℕ) → (place ≡ 0) ⊎ (left ≤ 0) → last_bytes place left ≡ []
 unfolding last_bytes
 all_written zero left done = refl
 all_written (suc n) left (inl none) = absurd (omega (arith, none))
-all_written (suc n) left (inr few) = rw (le-leb left 255 few) refl
+all_written (suc n) left (inr few) = rw (le-leb left 0 few) refl
 
-pub after_found : (text : List ℕ) (passed code : ℕ) → AreBytes text → passed ≤ 7 → passed ≤ length text → code ≡ bytes_code (take passed text) → text ≡ name_of code ++ drop passed text
+starts_take : (n : ℕ) (text : List ℕ) → 0 < get_or text 0 0 → StartsSome (take n text)
+starts_take n [] first = absurd (omega (arith, first))
+starts_take n (b ∷ bytes) first = starts_front n b bytes first
+
+pub after_found : (text : List ℕ) (passed code : ℕ) → AreBytes text → 0 < get_or text 0 0 → passed ≤ 8 → passed ≤ length text
+    → code ≡ bytes_code (take passed text) → text ≡ name_of code ++ drop passed text
 unfolding name_of
-after_found text passed code h few within e =
-    let size : length (take passed text) ≤ 7 = omega (arith, few, length-take-le passed text within) in
-    let back : last_bytes 7 code ≡ take passed text = ap (last_bytes 7) e ∙ bytes_back 7 (take passed text) size (All-take (λ (c : ℕ). c < 256) passed text h) in
+after_found text passed code h first few within e =
+    let size : length (take passed text) ≤ 8 = omega (arith, few, length-take-le passed text within) in
+    let back : last_bytes 8 code ≡ take passed text =
+    ap (last_bytes 8) e ∙ bytes_back 8 (take passed text) size (All-take (λ (c : ℕ). c < 256) passed text h) (starts_take passed text first) in
     sym (take-append-drop passed text) ∙ ap (λ (bs : List ℕ). bs ++ drop passed text) (sym back)
 
-pub short_code : (name : List ℕ) → nat_le (length name) 7 ≡ true → code_of name ≡ bytes_code name
+-- what a short name is
+pub record ShortName (name : List ℕ) : Type 0 where
+  pub first : 0 < get_or name 0 0
+  pub few : length name ≤ 8
+
+pub short_name : (name : List ℕ) → is_short name ≡ true → ShortName name
+short_name name e =
+    let parts = and_parts (nat_lt 0 (get_or name 0 0)) (nat_le (length name) 8) e in
+    record { first = ltb-true 0 (get_or name 0 0) parts.0; few = leb-true (length name) 8 parts.1 }
+
+pub is_short_name : (name : List ℕ) → 0 < get_or name 0 0 → length name ≤ 8 → is_short name ≡ true
+is_short_name name first few = rw (lt-ltb 0 (get_or name 0 0) first) (le-leb (length name) 8 few)
+
+pub short_code : (name : List ℕ) → is_short name ≡ true → code_of name ≡ bytes_code name
 unfolding code_of
 short_code name e = rw e refl
 
-long_code : (name : List ℕ) → nat_le (length name) 7 ≡ false → code_of name ≡ 0
+pub short_above : (name : List ℕ) → is_short name ≡ true → 0 < code_of name
+short_above name e = omega (arith, short_code name e, some_code name (short_name name e).first)
+
+long_code : (name : List ℕ) → is_short name ≡ false → code_of name ≡ 0
 unfolding code_of
 long_code name e = rw e refl
 
-short : (name : List ℕ) → 0 < code_of name → nat_le (length name) 7 ≡ true
-short name some = elim (cases_Bool (nat_le (length name) 7)) [
+short : (name : List ℕ) → 0 < code_of name → is_short name ≡ true
+short name some = elim (cases_Bool (is_short name)) [
   | inl e ↦ e
   | inr e ↦ let none = long_code name e in absurd (omega (arith, some, none))
 ]
 
-pub some_named : (code : ℕ) → 0 < code_of (name_of code)
+-- a name begins with no 0
+name_begins : (name : List ℕ) → IsName name → 0 < get_or name 0 0
+name_begins [] h = absurd (omega (arith, h.some))
+name_begins (b ∷ bytes) h = omega (arith, leb-true 33 b (and_parts (nat_le 33 b) (has_name_bytes bytes) h.each).0)
+
+-- the code of a code's name is not 0
+named_above : (code : ℕ) → is_name (name_of code) ≡ true → 0 < code_of (name_of code)
 unfolding name_of
-some_named code =
-    let few : nat_le (length (last_bytes 7 code)) 7 ≡ true = grind (arith, nat_tests, few_bytes 7 code) in
-    omega (arith, short_code (last_bytes 7 code) few, some_code (last_bytes 7 code))
+named_above code e =
+    let name = last_bytes 8 code in
+    short_above name (is_short_name name (name_begins name (named name e)) (few_bytes 8 code))
 
 pub name_back : (name : List ℕ) → AreBytes name → 0 < code_of name → name_of (code_of name) ≡ name
 unfolding name_of
 name_back name h some =
-    let few = short name some in
-    ap (last_bytes 7) (short_code name few) ∙ bytes_back 7 name (leb-true (length name) 7 few) h
+    let e = short name some in
+    ap (last_bytes 8) (short_code name e) ∙ bytes_back 8 name (short_name name e).few h (λ there. (short_name name e).first)
 
 pub same_name : (xs ys : List ℕ) → AreBytes xs → AreBytes ys → code_of xs ≡ code_of ys → 0 < code_of ys → xs ≡ ys
 same_name xs ys hx hy e some =
@@ -223,6 +261,13 @@ code_at codes p h lt =
     let within : p < length (map name_of codes) = omega (arith, lt, length-map codes name_of) in
     sym (ap (λ (cs : List ℕ). get_or cs p 0) h.coded ∙ get_or-map code_of (map name_of codes) p [] 0 within ∙ ap code_of (get_or-map name_of codes p 0 [] lt))
 
+-- codes of names are not 0
+pub code_above : (codes : List ℕ) (p : ℕ) → HaveCodes (map name_of codes) codes → p < length codes → 0 < get_or codes p 0
+code_above codes p h lt =
+    let within : p < length (map name_of codes) = omega (arith, lt, length-map codes name_of) in
+    let name : is_name (name_of (get_or codes p 0)) ≡ true = sym (ap is_name (get_or-map name_of codes p 0 [] lt)) ∙ h.named p [] within in
+    omega (arith, code_at codes p h lt, named_above (get_or codes p 0) name)
+
 -- what a search for a code finds
 pub found_place : (codes name : List ℕ) (code : ℕ) (r : Option ℕ) → code ≡ code_of name
     → HaveCodes (map name_of codes) codes → AreBytes name → IfSome r (λ p. p < length codes)
@@ -231,7 +276,7 @@ pub found_place : (codes name : List ℕ) (code : ℕ) (r : Option ℕ) → code
 found_place codes name code None is h bytes within found absent = sym (no_place (map name_of codes) codes name h (subst (λ (n : ℕ). All (λ c. c ≢ n) codes) is (absent refl)))
 found_place codes name code (Some p) is h bytes within found absent =
     let same : get_or codes p 0 ≡ code_of name = found ∙ is in
-    let some : 0 < code_of name = omega (arith, same, code_at codes p h within, some_named (get_or codes p 0)) in
+    let some : 0 < code_of name = omega (arith, same, code_above codes p h within) in
     sym (place_by_code (map name_of codes) codes name p h bytes within same some)
 
 pub last_by_code : (codes : List ℕ) (o : Option ℕ) (code : ℕ) → o ≡ slice_get codes (length codes - 1) → o ≡ Some code → last_name (map name_of codes) ≡ name_of code
@@ -247,12 +292,12 @@ no_last codes o e is =
     ∙ ap (λ n. unwrap_or n []) (slice_get-map name_of codes (length codes - 1) ∙ ap (option_map name_of) (sym e ∙ is))
 
 -- a name is the last one where its code is
-pub same_test : (name : List ℕ) (code : ℕ) → AreBytes name → AreBytes (name_of code) → code_of (name_of code) ≡ code → (code_of name == code) ≡ bytes_eq name (name_of code)
-same_test name code hx hy e = by (bytes_eq name (name_of code)) refl
+pub same_test : (name : List ℕ) (code : ℕ) → AreBytes name → AreBytes (name_of code) → code_of (name_of code) ≡ code → 0 < code → (code_of name == code) ≡ bytes_eq name (name_of code)
+same_test name code hx hy e some = by (bytes_eq name (name_of code)) refl
   where
     by : (t : Bool) → bytes_eq name (name_of code) ≡ t → (code_of name == code) ≡ bytes_eq name (name_of code)
     by true is = eq-eqb (code_of name) code (ap code_of (bytes_same name (name_of code) is) ∙ e) ∙ sym is
-    by false is = ne_eqb (code_of name) code (λ same. bytes_differ name (name_of code) is (same_name name (name_of code) hx hy (same ∙ sym e) (some_named code))) ∙ sym is
+    by false is = ne_eqb (code_of name) code (λ same. bytes_differ name (name_of code) is (same_name name (name_of code) hx hy (same ∙ sym e) (omega (arith, e, some)))) ∙ sym is
 
 -- ---- codes of short names before others
 
@@ -299,4 +344,4 @@ fresh_code names codes name code h is bytes new some = λ k d lt same.
 
 -- codes of short names are not 0
 pub all_some : (codes : List ℕ) → HaveCodes (map name_of codes) codes → All (λ c. 0 < c) codes
-all_some codes h = λ k d lt. omega (arith, code_at codes k h lt, some_named (get_or codes k 0), get_or_default codes k d 0 lt)
+all_some codes h = λ k d lt. omega (arith, code_above codes k h lt, get_or_default codes k d 0 lt)

@@ -9,7 +9,7 @@ use Rattle.text_base.proofs.NamePlaces.{texts_of}
 use Rattle.mps_words.specs.InsideCodes.{code_of, name_of, AreBytes, HaveCodes, kept_names}
 use Rattle.text_base.specs.Names.{place_of}
 use Rattle.mps_words.specs.Names.{last_name}
-use Rattle.mps_words.proofs.CodeLemmas.{one_more_code, name_back, code_at, last_named, named}
+use Rattle.mps_words.proofs.CodeLemmas.{one_more_code, name_back, code_at, code_above, last_named, named}
 
 -- ---- what is held
 
@@ -42,6 +42,7 @@ pub record IsLastCode (code : ℕ) (codes : List ℕ) : Type 0 where
   pub some : 0 < length (map name_of codes)
   pub bytes : AreBytes (name_of code)
   pub own : code_of (name_of code) ≡ code
+  pub above : 0 < code
 
 pub last_code : (codes : List ℕ) (o : Option ℕ) (code : ℕ) → HaveCodes (map name_of codes) codes → o ≡ slice_get codes (length codes - 1) → o ≡ Some code → IsLastCode code codes
 last_code codes o code h e is =
@@ -54,6 +55,7 @@ last_code codes o code h e is =
       some = omega (arith, inside);
       bytes = subst AreBytes name (h.bytes (length codes - 1) [] inside);
       own = sym (ap (λ (n : ℕ). code_of (name_of n)) here) ∙ code_at codes (length codes - 1) h within ∙ here;
+      above = omega (arith, here, code_above codes (length codes - 1) h within);
     }
 
 pub name_of_last : {A : Type 0} (o : Option A) (codes : List ℕ) (names : List (List ℕ)) → HaveCodes names codes → IfSome o (λ x. 0 < length names) → IfSome o (λ x. IsName (last_name names))

@@ -1,6 +1,6 @@
 -- Short names that a text begins with.
-use Rattle.std.proofs.Common.{◌≡◌, ◌∙◌, ℕ, zero, suc, ◌+◌, ◌-◌, ◌*◌, ◌/◌, ◌%◌, ◌<◌, ◌≤◌, ◌^◌, List, [], ◌∷◌, ◌++◌}
-use Rattle.std.proofs.Common.{length, take, drop, get_or, true, refl, sym, ap, ap₂, arith, subst, Option, Some, None}
+use Rattle.std.proofs.Common.{◌≡◌, ◌≢◌, ◌∙◌, ℕ, zero, suc, ◌+◌, ◌-◌, ◌*◌, ◌/◌, ◌%◌, ◌<◌, ◌≤◌, ◌^◌, List, [], ◌∷◌, ◌++◌}
+use Rattle.std.proofs.Common.{length, take, drop, get_or, Bool, true, false, refl, sym, ap, ap₂, arith, subst, Option, Some, None}
 use Rattle.std.proofs.Common.{mul-le-mul_right}
 use Rattle.std.specs.Prelude.{IfSome, fold, nat_le}
 use Rattle.std.proofs.lemmas.Nat.{div-mul-add, mod-mul-add, pow-add, one_shl}
@@ -10,11 +10,13 @@ use Rattle.std.proofs.lemmas.Bool.{le-leb}
 use Rattle.std.proofs.Math.Seq.{take-add}
 use Rattle.std.proofs.lemmas.List.Elements.{All-head, All-tail, All-take, All-drop}
 use Rattle.std.proofs.lemmas.List.Sums.{fold-append, fold_more}
+use Rattle.std.specs.Str.{bytes_eq}
 use Rattle.text_base.specs.Names.{is_name}
-use Rattle.text_base.proofs.NamePlaces.{place_some}
+use Rattle.mps_model.specs.Valid.{marker_word}
+use Rattle.text_base.proofs.NamePlaces.{place_some, bytes_same}
 use Rattle.mps_words.specs.InsideCodes.{AreBytes, HaveCodes, IsFound, IsShort, code_of, name_of, with_byte}
 use Rattle.text_base.specs.Names.{place_of}
-use Rattle.mps_words.proofs.CodeLemmas.{short_code, some_code, name_back, place_by_code, named}
+use Rattle.mps_words.proofs.CodeLemmas.{is_short_name, short_code, short_above, name_back, place_by_code, named}
 
 -- bytes as the digits of a number
 abbrev value : List ℕ → ℕ
@@ -58,51 +60,41 @@ value_front front behind h =
     ∙ div-mul-add (value front) (256 ^ length behind) (value behind) (value_below behind h)
 
 -- the first bytes of a head
-head_front : (text : List ℕ) (head size : ℕ) → AreBytes text → 8 ≤ length text → head ≡ value (take 8 text) → size ≤ 7 → head / 2 ^ (56 - 8 * size) ≡ value (take (suc size) text)
+head_front : (text : List ℕ) (head size : ℕ) → AreBytes text → 8 ≤ length text → head ≡ value (take 8 text) → size ≤ 8 → head / 2 ^ (64 - 8 * size) ≡ value (take size text)
 head_front text head size h long is few =
-    let front = take (suc size) text in
-    let after = drop (suc size) text in
-    let behind = take (7 - size) after in
-    let eight : 8 ≡ suc size + (7 - size) = omega (arith, few) in
-    let parts : take 8 text ≡ front ++ behind = ap (λ (n : ℕ). take n text) eight ∙ take-add (suc size) (7 - size) text in
-    let bits : 56 - 8 * size ≡ 8 * length behind = omega (arith, few, long, length-drop (suc size) text, length-take-le (7 - size) after (omega (arith, few, long, length-drop (suc size) text))) in
-    let bytes : AreBytes behind = All-take (λ (c : ℕ). c < 256) (7 - size) after (All-drop (λ (c : ℕ). c < 256) (suc size) text h) in
+    let front = take size text in
+    let after = drop size text in
+    let behind = take (8 - size) after in
+    let eight : 8 ≡ size + (8 - size) = omega (arith, few) in
+    let parts : take 8 text ≡ front ++ behind = ap (λ (n : ℕ). take n text) eight ∙ take-add size (8 - size) text in
+    let bits : 64 - 8 * size ≡ 8 * length behind = omega (arith, few, long, length-drop size text, length-take-le (8 - size) after (omega (arith, few, long, length-drop size text))) in
+    let bytes : AreBytes behind = All-take (λ (c : ℕ). c < 256) (8 - size) after (All-drop (λ (c : ℕ). c < 256) size text h) in
     ap (λ (n : ℕ). head / 2 ^ n) bits ∙ ap (λ (n : ℕ). n / 2 ^ (8 * length behind)) (is ∙ ap value parts)
     ∙ value_front front behind bytes
 
--- the byte behind the first ones, and their code
-record IsHead (text : List ℕ) (both size : ℕ) : Type 0 where
-  last : both % 256 ≡ get_or text size 0
-  code : (1 * 2 ^ (8 * size)) % 2 ^ 64 + both / 256 ≡ code_of (take size text)
+-- the first byte of a text with a head
+first_byte : (text : List ℕ) (head : ℕ) → AreBytes text → 8 ≤ length text → head ≡ value (take 8 text) → head / 2 ^ 56 ≡ get_or text 0 0
+first_byte [] head h long is = absurd (omega (arith, long))
+first_byte (b ∷ text) head h long is = head_front (b ∷ text) head 1 h long is (omega arith) ∙ omega arith
 
-head_parts : (text : List ℕ) (head size : ℕ) → AreBytes text → 8 ≤ length text → head ≡ value (take 8 text) → size ≤ 7 → IsHead text (head / 2 ^ (56 - 8 * size)) size
-head_parts text head size h long is few =
-    let within : size < length text = omega (arith, few, long) in
-    let next : suc size ≡ size + 1 = omega arith in
-    let both : head / 2 ^ (56 - 8 * size) ≡ value (take size text) * 256 + get_or text size 0 =
-    head_front text head size h long is few ∙ ap (λ (n : ℕ). value (take n text)) next ∙ fold_more with_byte 0 text size 0 within in
-    let byte : get_or text size 0 < 256 = h size 0 within in
-    let small : length (take size text) ≡ size = length-take-le size text (omega (arith, within)) in
-    let short : nat_le (length (take size text)) 7 ≡ true = le-leb (length (take size text)) 7 (omega (arith, small, few)) in
-    let code : code_of (take size text) ≡ 1 * 256 ^ length (take size text) + value (take size text) = short_code (take size text) short ∙ value_behind 1 (take size text) in
-    let one : (1 * 2 ^ (8 * size)) % 2 ^ 64 ≡ 256 ^ length (take size text) = one_shl (8 * size) 64 (omega (arith, few)) ∙ pow_bits size ∙ ap (λ (n : ℕ). 256 ^ n) (sym small) in
-    record {
-      last = ap (λ (n : ℕ). n % 256) both ∙ mod-mul-add (value (take size text)) 256 (get_or text size 0) byte;
-      code = omega (arith, one, code, ap (λ (n : ℕ). n / 256) both ∙ div-mul-add (value (take size text)) 256 (get_or text size 0) byte);
-    }
+first_front : (text : List ℕ) (n : ℕ) → 0 < n → get_or (take n text) 0 0 ≡ get_or text 0 0
+first_front text zero some = absurd (omega (arith, some))
+first_front [] (suc n) some = refl
+first_front (b ∷ text) (suc n) some = refl
 
 -- the name that a head begins with
-pub short_name : (text rest : List ℕ) (head size end code : ℕ) → AreBytes text → 8 ≤ length text
-    → head ≡ value (take 8 text) → size ≤ 7 → head / 2 ^ (56 - 8 * size) % 256 ≡ end → rest ≡ drop (size + 1) text
-    → code ≡ (1 * 2 ^ (8 * size)) % 2 ^ 64 + head / 2 ^ (56 - 8 * size) / 256 → IsShort text end code rest
-short_name text rest head size end code h long is few last after own =
-    let parts = head_parts text head size h long is few in
-    let within : size < length text = omega (arith, few, long) in
+pub head_name : (text rest : List ℕ) (head size end code : ℕ) → AreBytes text → 8 ≤ length text
+    → head ≡ value (take 8 text) → 0 < size → size ≤ 8 → 0 < head / 2 ^ 56 → size < length text → get_or text size 0 ≡ end
+    → rest ≡ drop (size + 1) text → code ≡ head / 2 ^ (64 - 8 * size) → IsShort text end code rest
+head_name text rest head size end code h long is some few first within last after own =
+    let small : length (take size text) ≡ size = length-take-le size text (omega (arith, within)) in
+    let begins : 0 < get_or (take size text) 0 0 = omega (arith, first, first_byte text head h long is, first_front text size some) in
+    let short = is_short_name (take size text) begins (omega (arith, small, few)) in
     record {
       name = take size text;
-      parts = sym (take-append-drop size text) ∙ ap (λ (bs : List ℕ). take size text ++ bs) (drop_more text size 0 within ∙ ap₂ (λ (b : ℕ) (bs : List ℕ). b ∷ bs) (sym parts.last ∙ last) (sym after));
-      short = omega (arith, few, length-take-le size text (omega (arith, within)));
-      own = own ∙ parts.code;
+      parts = sym (take-append-drop size text) ∙ ap (λ (bs : List ℕ). take size text ++ bs) (drop_more text size 0 within ∙ ap₂ (λ (b : ℕ) (bs : List ℕ). b ∷ bs) last (sym after));
+      short = short;
+      own = own ∙ head_front text head size h long is few ∙ sym (short_code (take size text) short);
     }
 
 -- ---- names that are known
@@ -110,29 +102,37 @@ short_name text rest head size end code h long is few last after own =
 front_bytes : (text name more : List ℕ) → AreBytes text → text ≡ name ++ more → AreBytes name
 front_bytes text name more h parts = subst AreBytes (ap (take (length name)) parts ∙ take_at name more (length name) refl) (All-take (λ (b : ℕ). b < 256) (length name) text h)
 
-code_above : (text rest : List ℕ) (end code : ℕ) (s : IsShort text end code rest) → 0 < code_of s.name
-code_above text rest end code s = omega (arith, short_code s.name (le-leb (length s.name) 7 s.short), some_code s.name)
-
 -- the name of the code is what the text begins with
 short_back : (text rest : List ℕ) (end code : ℕ) → AreBytes text → IsShort text end code rest → text ≡ name_of code ++ end ∷ rest
 short_back text rest end code h s =
     let bytes = front_bytes text s.name (end ∷ rest) h s.parts in
-    let back : name_of code ≡ s.name = ap name_of s.own ∙ name_back s.name bytes (code_above text rest end code s) in
+    let back : name_of code ≡ s.name = ap name_of s.own ∙ name_back s.name bytes (short_above s.name s.short) in
     s.parts ∙ ap (λ (name : List ℕ). name ++ end ∷ rest) (sym back)
+
+-- a name with another code is not the word of a marker line
+other_word : (name : List ℕ) (code : ℕ) → code ≡ code_of name → code ≢ 2831991562391867943 → bytes_eq name marker_word ≡ false
+other_word name code own other = by (bytes_eq name marker_word) refl
+  where
+    marker : code_of marker_word ≡ 2831991562391867943
+    marker = short_code marker_word refl
+
+    by : (t : Bool) → bytes_eq name marker_word ≡ t → bytes_eq name marker_word ≡ false
+    by false is = is
+    by true is = absurd (other (own ∙ ap code_of (bytes_same name marker_word is) ∙ marker))
 
 -- a short name whose code stands at a place is found there
 pub short_found : (names : List (List ℕ)) (codes text rest : List ℕ) (end code place : ℕ) → HaveCodes names codes
-    → AreBytes text → IsShort text end code rest → place < length codes → get_or codes place 0 ≡ code
-    → IsFound names text end place rest
-short_found names codes text rest end code place h bytes s within here =
+    → AreBytes text → IsShort text end code rest → code ≢ 2831991562391867943 → place < length codes
+    → get_or codes place 0 ≡ code → IsFound names text end place rest
+short_found names codes text rest end code place h bytes s other within here =
     let own = front_bytes text s.name (end ∷ rest) bytes s.parts in
-    let at : place_of names s.name ≡ Some place = place_by_code names codes s.name place h own within (here ∙ s.own) (code_above text rest end code s) in
+    let at : place_of names s.name ≡ Some place = place_by_code names codes s.name place h own within (here ∙ s.own) (short_above s.name s.short) in
     let stands = place_some names s.name place at in
     record {
       name = s.name;
       parts = s.parts;
       is_name = named s.name (ap is_name stands.same ∙ h.named place [] stands.within);
-      short = s.short;
+      other = other_word s.name code s.own other;
       at = at;
     }
 

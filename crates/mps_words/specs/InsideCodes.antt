@@ -1,29 +1,35 @@
 -- Short names as numbers.
-use Rattle.std.specs.Prelude.{◌≡◌, ◌≢◌, true, zero, suc, ℕ, ◌+◌, ◌*◌, ◌/◌, ◌%◌, ◌<◌, ◌≤◌, ◌^◌, nat_le, List, [], ◌∷◌, ◌++◌, length, map, get_or, fold, All, AllPairs, if◌then◌else◌, Option, Some, None}
+use Rattle.std.specs.Prelude.{◌≡◌, ◌≢◌, Bool, true, false, ◌&&◌, zero, suc, ℕ, ◌+◌, ◌*◌, ◌/◌, ◌%◌, ◌<◌, ◌≤◌, ◌^◌, nat_le, nat_lt, List, [], ◌∷◌, ◌++◌, length, map, get_or, fold, All, AllPairs, if◌then◌else◌, Option, Some, None}
 use Rattle.text_base.specs.Names.{IsName, is_name}
 use Rattle.text_base.specs.Names.{place_of}
+use Rattle.std.specs.Str.{bytes_eq}
+use Rattle.mps_model.specs.Valid.{marker_word}
 
 -- a number with one more digit of base 256
 abbrev pub with_byte : ℕ → ℕ → ℕ
 with_byte code byte = code * 256 + byte
 
--- the bytes as digits of base 256, with a 1 above the first: other bytes have another number
+-- the bytes as digits of base 256: other bytes have another number where the first is not 0
 abbrev pub bytes_code : List ℕ → ℕ
-bytes_code bytes = fold with_byte 1 bytes
+bytes_code bytes = fold with_byte 0 bytes
 
--- that of at most seven bytes; 0 of more
+-- one to eight bytes, the first of them not 0
+abbrev pub is_short : List ℕ → Bool
+is_short name = nat_lt 0 (get_or name 0 0) && nat_le (length name) 8
+
+-- that of a short name; 0 of others
 unfoldable pub code_of : List ℕ → ℕ
-code_of name = if nat_le (length name) 7 then bytes_code name else 0
+code_of name = if is_short name then bytes_code name else 0
 
--- the digits of a number of base 256 without the first, the last n at most
+-- the digits of a number of base 256, the last n at most
 unfoldable pub last_bytes : ℕ → ℕ → List ℕ
 last_bytes zero code = []
 last_bytes (suc n) code =
-    if nat_le code 255 then [] else last_bytes n (code / 256) ++ code % 256 ∷ []
+    if nat_le code 0 then [] else last_bytes n (code / 256) ++ code % 256 ∷ []
 
 -- the short name of this code
 unfoldable pub name_of : ℕ → List ℕ
-name_of code = last_bytes 7 code
+name_of code = last_bytes 8 code
 
 -- each is a byte
 abbrev pub AreBytes : List ℕ → Type 0
@@ -46,18 +52,19 @@ abbrev pub kept_names : Option (List (List ℕ)) → List ℕ → List (List ℕ
 kept_names (Some names) codes = names
 kept_names None codes = map name_of codes
 
--- a text begins with a name of at most seven bytes and of this code, this byte, and what follows
+-- a text begins with a short name of this code, this byte, and what follows
 pub record IsShort (text : List ℕ) (end code : ℕ) (rest : List ℕ) : Type 0 where
   pub name : List ℕ
   pub parts : text ≡ name ++ end ∷ rest
-  pub short : length name ≤ 7
+  pub short : is_short name ≡ true
   pub own : code ≡ code_of name
 
--- a text begins with the name at a place, of at most seven bytes, this byte, and what follows
+-- a text begins with the name at a place, which is not the word of a marker line, this byte, and
+-- what follows
 pub record IsFound (names : List (List ℕ)) (text : List ℕ) (end place : ℕ) (rest : List ℕ)
     : Type 0 where
   pub name : List ℕ
   pub parts : text ≡ name ++ end ∷ rest
   pub is_name : IsName name
-  pub short : length name ≤ 7
+  pub other : bytes_eq name marker_word ≡ false
   pub at : place_of names name ≡ Some place

@@ -1,14 +1,14 @@
 // Short names as numbers, so that a name is found without its hash or a look at other names' bytes.
 ghost use Rattle.std.specs.Prelude.{◌≡◌, ◌≢◌, ◌-◌, ◌<◌, ◌≤◌, ◌^◌, ◌++◌, ◌∷◌, [], None, All, OnOk, OnErr, IfOk, IfSome, fold, length, take, get_or, slice_get};
-ghost use Rattle.mps_words.specs.InsideCodes.{IsShort, bytes_code, code_of, name_of, with_byte};
+ghost use Rattle.mps_words.specs.InsideCodes.{IsShort, bytes_code, code_of, is_short, name_of, with_byte};
 
 use crate::runs::Run;
 use indexmap::IndexSet;
 use std::alloc::{AllocError, Global};
 use std::marker::Model;
 
-/// A name of at most so many bytes is short.
-const SHORT: usize = 7;
+/// A name of one to so many bytes is short where the first is not 0.
+const SHORT: usize = 8;
 
 /// Each byte is 1.
 pub(crate) const ONES: u64 = 0x0101_0101_0101_0101;
@@ -62,12 +62,23 @@ fn number_of(code: u64) -> usize {
     (fours & 0xffff_ffff).wrapping_add((fours >> 32).wrapping_mul(10_000)) as usize
 }
 
+// Whether a name is short.
+#[inline]
+fn is_short(name: &[u8]) -> bool
+    ensures { result ≡ is_short name.now }
+{
+    match name {
+        [first, ..] => *first > 0 && name.len() <= SHORT,
+        [] => false,
+    }
+}
+
 // The key of a short name.
 fn short_key(name: &[u8]) -> Key
-    requires { length name.now ≤ 7 }
+    requires { length name.now ≤ 8 }
     ensures { result.code ≡ bytes_code name.now }
 {
-    let mut code = 1;
+    let mut code = 0;
     'bytes: for byte in name {
         code = code * 256 + *byte as u64;
     }
@@ -83,7 +94,7 @@ impl Key {
     pub(crate) fn of(name: &[u8]) -> Key
         ensures { result.code ≡ code_of name.now }
     {
-        if name.len() > SHORT {
+        if !is_short(name) {
             return Key { code: 0, number: 0 };
         }
         short_key(name)
@@ -97,7 +108,7 @@ pub(crate) fn name_of(alloc: Global, code: u64) -> Result<Vec<u8>, AllocError>
     let mut bytes = [0; SHORT];
     let mut place = SHORT;
     let mut left = code;
-    'bytes: while place > 0 && left > 255 {
+    'bytes: while place > 0 && left > 0 {
         place -= 1;
         bytes[place] = (left % 256) as u8;
         left /= 256;
@@ -109,7 +120,10 @@ pub(crate) fn name_of(alloc: Global, code: u64) -> Result<Vec<u8>, AllocError>
 pub(crate) fn after_code(text: &[u8], code: u64) -> Option<&[u8]>
     ensures { IfSome result (λ rest. text.now ≡ name_of code ++ rest.now) }
 {
-    let mut found = 1;
+    if text.is_empty() || text[0] == 0 {
+        return None;
+    }
+    let mut found = 0;
     let mut passed = 0;
     'bytes: while found < code && passed < SHORT && passed < text.len() {
         found = found * 256 + text[passed] as u64;
@@ -137,9 +151,11 @@ fn head_of(text: &[u8]) -> Option<u64>
     }
 }
 
-// How many of eight bytes come before the first that is this one; any number is right.
+// How many of eight bytes come before the first that is this one; any number up to eight is right.
 #[inline(always)]
-fn size_before(head: u64, end: u8) -> usize {
+fn size_before(head: u64, end: u8) -> usize
+    ensures { result ≤ 8 }
+{
     let others = head ^ (end as u64).wrapping_mul(ONES);
     let low = (others & (127 * ONES)).wrapping_add(127 * ONES);
     (!(others | low) & (128 * ONES)).leading_zeros() as usize / 8
@@ -155,14 +171,13 @@ pub(crate) fn first_short(text: &[u8], end: u8) -> Option<(Key, &[u8])>
         return None;
     };
     let size = size_before(head, end);
-    if size > SHORT {
+    if size == 0 || head >> 56 == 0 {
         return None;
     }
-    let both = head >> (56 - 8 * size);
-    if both % 256 != end as u64 {
+    if size >= text.len() || text[size] != end {
         return None;
     }
-    let code = (1 << (8 * size)) + both / 256;
+    let code = head >> (64 - 8 * size);
     let number = number_of(code);
     Some((Key { code, number }, text.split_at(size + 1).1))
 }

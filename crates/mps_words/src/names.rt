@@ -15,6 +15,9 @@ use std::marker::Model;
 /// At most so many names may come.
 pub const MOST_NAMES: usize = 0x20_0000;
 
+// The code of the word `'MARKER'`.
+const MARKER: u64 = 0x274d_4152_4b45_5227;
+
 /// At most 2^21 different names, each with its place. As long as all are short, their codes alone
 /// are kept, and a name is found by its code; else by its bytes.
 #[derive(Drop)]
@@ -121,7 +124,7 @@ impl Names {
     }
 
     /// The place of the short name that a text begins with, before this byte, and what follows
-    /// that. None of some texts.
+    /// that. None of some texts, as of those that begin with the word of a marker line.
     #[inline(always)]
     pub fn find_front<'a>(&self, text: &'a [u8], end: u8) -> Option<(u32, &'a [u8])>
         ensures { IfSome result (λ p. IsFound self.now text.now end p.0 p.1.now) }
@@ -129,6 +132,9 @@ impl Names {
         let Some((key, rest)) = first_short(text, end) else {
             return None;
         };
+        if key.code == MARKER {
+            return None;
+        }
         let Some(place) = self.codes.guess(key) else {
             return None;
         };

@@ -56,7 +56,7 @@ module _ (f : File) (k : ℕ) where
   unfolding linear_of
   rows_counted = elements_length (linear_row f) 0 f.counts.n_con
 
-  row_lem : (i : ℕ) → i < f.counts.n_con → row_at (linear_of f k) i ≡ linear_row f i
+  pub row_lem : (i : ℕ) → i < f.counts.n_con → row_at (linear_of f k) i ≡ linear_row f i
   unfolding linear_of
   row_lem i h = elements_at (linear_row f) 0 f.counts.n_con i no_row h ∙ ap (linear_row f) (omega arith)
 

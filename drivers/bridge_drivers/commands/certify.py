@@ -36,7 +36,7 @@ EXAMPLE = "\nexample: {name} mix timelim=60 certificate=mix.certificate\n"
 
 
 class CertifyCommand(DriverCommand):
-    """A call whose answer is certified; it writes no .sol.
+    """A call whose answer is certified; its .sol, with -s or by `wantsol`, is a certified one.
 
     Args:
         solver: The name of the solver, which finds a point.
@@ -51,6 +51,7 @@ class CertifyCommand(DriverCommand):
     example_text = EXAMPLE
     further_options = CERTIFY_OPTIONS
     shows_short_table = False
+    certifies_sol = True
 
     def __init__(self, solver: str, console: Optional[Console] = None) -> None:
         super().__init__(solver, console)
@@ -66,11 +67,11 @@ class CertifyCommand(DriverCommand):
         For `certificate=-` it is written into the workspace, and messages go to standard error.
 
         Raises:
-            WrongOption: Something is wrong with them, -AMPL or -s stands among them, or json=1
-                beside `certificate=-`.
+            WrongOption: Something is wrong with them, -AMPL stands among them, or json=1 beside
+                `certificate=-`.
         """
-        if self.call.is_ampl or self.call.saves:
-            raise WrongOption(f"{NAME} writes no .sol")
+        if self.call.is_ampl:
+            raise WrongOption(f"{NAME} is not called with -AMPL: a driver is, with strict=1")
         self.call.echoes = False
         super().take_options()
         given = self.options.text("certificate")
@@ -82,10 +83,6 @@ class CertifyCommand(DriverCommand):
             raise WrongOption("json=1 and certificate=- both want standard output")
         self.console.destination = Destination.ERRORS
         self.options.put("certificate", self.workspace.new_path())
-
-    def writes_sol(self) -> bool:
-        """It never is."""
-        return False
 
     def message_of(self, outcome: Outcome) -> List[str]:
         """The lines that are told; where the certificate is printed, without that on its file."""

@@ -136,7 +136,7 @@ def _options_by_command() -> Dict[str, Mapping[str, Option]]:
 
 def _bash_parts(tables: CompletionTables) -> Dict[str, str]:
     """What stands at the places of bash's template, by their names."""
-    made = 'COMPREPLY=($(compgen %s -- "$cur"))'
+    made = "_nl_bridge_add %s"
     files = "compopt -o filenames 2>/dev/null; " + made
     words = made % "-W '%s'"
     options = []

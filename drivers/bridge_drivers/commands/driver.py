@@ -17,6 +17,7 @@ from .. import api
 from ..formats.sol import failure_sol, short_table, value_lines
 from ..formats.source import Source, Workspace, missing_source, read_model, read_source
 from ..pipeline.monitor import Monitor
+from ..pipeline.option_values import RunSettings
 from ..pipeline.outcome import code_of_error
 from ..pipeline.outputs import (
     exit_status,
@@ -105,6 +106,7 @@ class DriverCommand:
     usage_text = USAGE
     example_text = EXAMPLE
     further_options: Sequence[Option] = ()
+    certifies_sol = False  # a .sol is what `bridge certified` writes, also without strict=1
     shows_short_table = True  # values are shown, where they are few, that nobody asked for
 
     def __init__(self, solver: str, console: Optional[Console] = None) -> None:
@@ -206,11 +208,11 @@ class DriverCommand:
         except Exception as fault:  # a modelling system is told, whatever it was
             if self.options.number("outlev") >= LOG_AND_COMMANDS:
                 self.console.error(traceback.format_exc().rstrip("\n"))
-            error = DriverFault(repr(fault))
+            told = DriverFault(repr(fault))
             if self.has_sol:
-                self.console.error(f"{self.name}: {error}")
-                return error.status
-            return self.failed(error)
+                self.console.error(f"{self.name}: {told}")
+                return told.status
+            return self.failed(told)
 
     def _read_model(self) -> None:
         """Opens the model, and sets `source`.
@@ -261,7 +263,7 @@ class DriverCommand:
         options.take(self.call.options)
         if self.call.fault:
             raise WrongOption(self.call.fault)
-        options.run_settings(self.solver.name, writes_sol=self.writes_sol())
+        self._run_settings()
         self._check_fit()
         if options.echo and self.call.echoes and not options.flag("failexit"):
             self.console.line(f"{self.name} {VERSION}: {' '.join(options.echo)}")
@@ -287,6 +289,16 @@ class DriverCommand:
         wanted = bool(self.options.number("wantsol") & WRITE_SOL)
         return self.call.is_ampl or self.call.saves or wanted
 
+    def _run_settings(self) -> RunSettings:
+        """What the options make.
+
+        Raises:
+            WrongOption: Something is wrong with them.
+        """
+        return self.options.run_settings(
+            self.solver.name, writes_sol=self.writes_sol(), certifies_sol=self.certifies_sol
+        )
+
     def _work(self) -> Outcome:
         """The outcome.
 
@@ -311,7 +323,7 @@ class DriverCommand:
         Raises:
             BridgeError: There is none.
         """
-        wanted = self.options.run_settings(self.solver.name, writes_sol=self.writes_sol())
+        wanted = self._run_settings()
         run = self.solve_run_class(self.source, wanted.settings, self.monitor)
         try:
             if wanted.writes_input_alone:
@@ -333,7 +345,7 @@ class DriverCommand:
             FileFault: A file cannot be written.
         """
         self.outcome = outcome
-        settings = self.options.run_settings(self.solver.name, writes_sol=self.writes_sol())
+        settings = self._run_settings()
         write_outputs(outcome, self.source, settings.outputs, settings.settings.objective)
         self.has_sol = self.writes_sol()
         self._tell(outcome)

@@ -135,6 +135,14 @@ PROVED_COMMANDS: Sequence[CommandForm] = (
         example="verify knap.nl knap.certificate",
     ),
     CommandForm(
+        "certified",
+        "NL CERTIFICATE",
+        "the .sol text of a claim that holds",
+        "its verdict and the point of the certificate; where the claim does not hold nothing is "
+        "written, and the status is 1",
+        example="certified knap.nl knap.certificate",
+    ),
+    CommandForm(
         "verify_mps",
         "MPS CERTIFICATE",
         "the same over an MPS text in free form",
@@ -204,7 +212,8 @@ FRONT_COMMANDS: Sequence[CommandForm] = (
 FORMS: Sequence[CommandForm] = (*PROVED_COMMANDS, *FRONT_COMMANDS)
 COMMAND_WORDS = sorted({form.word for form in FORMS})
 PROVED_WORDS = {form.word for form in PROVED_COMMANDS}
-VERDICT_WORDS = ("verify", "verify_mps", "verify_fixed", "check", "prove")  # what answers a verdict
+# what writes one line, a verdict; `certified` writes a text, or nothing
+VERDICT_WORDS = ("verify", "verify_mps", "verify_fixed", "check", "prove")
 # what help, and README.md, say of each exit status
 STATUS_TEXTS: Mapping[ExitStatus, str] = {
     ExitStatus.DONE: "done: a text, an answer, a verdict that is yes",

@@ -29,7 +29,7 @@ from ..program.calls import Command, Reply, files_of_call, is_utf8
 from ..program.mps_forms import import_mps
 from ..program.reasons import listed_reasons
 from ..program.refusal import read_fault, why_unreadable
-from ..program.verdict import Verdict, read_check, read_proof
+from ..program.verdict import NoVerdict, Verdict, read_check, read_proof
 from ..solvers import SOLVERS
 from ..system import processes
 from ..system.codes import ExitStatus
@@ -433,7 +433,7 @@ def _run_proved_program(
     Raises:
         NotStarted: It cannot be run.
         NoVerdict: What it answers is no verdict.
-        ProgramFailed: It writes more than a verdict, or a text.
+        ProgramFailed: It writes more than a text.
     """
     files = files_of_call(call)
     has_fault = any(map(read_fault, files))
@@ -444,6 +444,8 @@ def _run_proved_program(
         ended = processes.run([*place, *call], Deadline(), limits, streams=streams)
     except OSError as fault:
         raise NotStarted(place[0], str(fault.strerror)) from None
+    if ended.dropped and has_verdict:
+        raise NoVerdict(Reply(ended.status, ended.output, ""))
     if ended.dropped:
         raise ProgramFailed(f"`bridge {words[0]}` writes more than is read")
     if has_verdict and ended.status in (ExitStatus.DONE, ExitStatus.FAILED):

@@ -10,7 +10,7 @@ import math
 import os
 import shlex
 import textwrap
-from dataclasses import dataclass
+from dataclasses import dataclass, replace
 from typing import Dict, Iterable, List, Mapping, Sequence, Union
 
 from ..pipeline.option_values import MOST_OBJECTIVES, MOST_PROCESSES, RunSettings, run_settings
@@ -260,8 +260,8 @@ COMMON_OPTIONS: Sequence[Option] = (
         "strict",
         0,
         SWITCH,
-        "1: what is not proved optimal, infeasible or unbounded is not solved (code 100, exit "
-        "status 7); sets prove=1",
+        "1: the .sol is what `bridge certified` writes of the certificate, byte for byte; what is not "
+        "proved optimal, infeasible or unbounded is not solved (exit status 7); sets prove=1",
     ),
     Option(
         "timelim",
@@ -299,7 +299,8 @@ CERTIFY_OPTIONS: Sequence[Option] = (
         "timelim",
         120.0,
         AMOUNT,
-        "seconds of the whole run, of which one half is kept for the certificate; 0: no limit",
+        "seconds of the whole run, of which one half is kept for the certificate; "
+        "0: no limit, but the certificate has 60 seconds of the processor",
     ),
 )
 
@@ -400,12 +401,15 @@ class OptionValues:
         """What an option is that is a text."""
         return str(self[name])
 
-    def run_settings(self, solver: str, *, writes_sol: bool) -> RunSettings:
+    def run_settings(
+        self, solver: str, *, writes_sol: bool, certifies_sol: bool = False
+    ) -> RunSettings:
         """How the model is solved and what is written, by the options of the call.
 
         Args:
             solver: The name of the solver.
             writes_sol: The .sol is written, whatever `wantsol` says.
+            certifies_sol: It is what `bridge certified` writes, also without strict=1.
 
         Raises:
             WrongOption: A quote of `extra` does not end, or two values do not go together.
@@ -418,4 +422,7 @@ class OptionValues:
         is_short = self.flag("shortest") if self.is_given("shortest") else None
         values["shortest"] = is_short
         values["wantsol"] = self.number("wantsol") & ~WRITE_SOL | int(writes_sol)
-        return run_settings(solver, values)
+        found = run_settings(solver, values)
+        if not certifies_sol:
+            return found
+        return found._replace(settings=replace(found.settings, certifies_sol=True))

@@ -29,8 +29,8 @@ from .evidence import (
 from .integer_certifier import IntegerCertifier
 from .linear_certifier import LinearCertifier
 from .refutations import Refuter
-from .search_deadline import SearchDeadline, SearchProgress
-from .task import CertificationTask, SearchOptions
+from .search_deadline import KEPT_SECONDS, SearchDeadline, SearchProgress
+from .task import CertificationTask, ExactSolver, SearchOptions
 from .work_limit import limit_work
 from .worker_pools import WorkerPool
 
@@ -53,6 +53,7 @@ def certify(
     on_progress: Optional[Callable[[SearchProgress], None]] = None,
     options: SearchOptions = SearchOptions(),
     pool: Optional[WorkerPool] = None,
+    exact_solver: Optional[ExactSolver] = None,
 ) -> Evidence:
     """What can be proved of a program, beginning with what a solver said of it.
 
@@ -68,6 +69,7 @@ def certify(
         on_progress: Is told what goes on, in place of what the deadline had told.
         options: What is asked; among it the number of the objective.
         pool: Other processes that search.
+        exact_solver: Is asked for the exact optimum of a linear program where no basis has it.
 
     Returns:
         The first evidence that is proved, else why nothing is. Its numbers are by columns and rows
@@ -77,7 +79,7 @@ def certify(
     if on_progress is not None:
         deadline.on_progress = on_progress
     store = EvidenceStore(program, judge, options.objective, deadline)
-    task = CertificationTask(program, store, deadline, options, answer, pool)
+    task = CertificationTask(program, store, deadline, options, answer, pool, exact_solver)
     return Certifier(task).certify(claim)
 
 
@@ -117,6 +119,9 @@ class Certifier:
         for a certificate.
         """
         found = self._certified(claim)
+        if found.claim == "feasible":  # also where the time ended within the search for a ray alone
+            is_open = found.may_be_unbounded or self.refuter.may_be_unbounded()
+            return found._replace(may_be_unbounded=is_open)
         if found.claim not in ("", "bound"):
             return found
         knows_optimum = self.store.is_optimum_known

@@ -22,7 +22,7 @@ from __future__ import annotations
 from array import array
 from dataclasses import dataclass
 from fractions import Fraction
-from typing import Dict, List, NamedTuple, Optional, Sequence
+from typing import Dict, Iterator, List, NamedTuple, Optional, Sequence, Tuple
 
 from ..model.double_form import DoubleProgram, SparseColumns
 from ..system.deadline import Deadline
@@ -71,25 +71,32 @@ class _Tightness:
     """
 
     def __init__(self, system: RowSystem, base: Sequence[int], near: float) -> None:
-        scale = system.side_scale
+        self.system = system
+        self.near = near
         self.sign: List[int] = []
         self.is_fixed: List[bool] = []
         for lower, upper, value in zip(system.lower, system.upper, base):
-            low, high = (is_met(side, scale, value, 1, near) for side in (lower, upper))
-            self.sign.append(1 if low else -1 if high else 0)
-            self.is_fixed.append(low and high)
+            is_low = is_met(lower, system.side_scale, value, 1, near)
+            is_high = is_met(upper, system.side_scale, value, 1, near)
+            self.sign.append(1 if is_low else -int(is_high))
+            self.is_fixed.append(is_low and is_high)
         self.equations: Dict[int, int] = {}
         self.rows: List[_TightRow] = []
-        activities = system.activities(base)
-        sides = zip(system.row_lower, system.row_upper, activities)
-        for i, (lower, upper, value) in enumerate(sides):
-            if lower is not None and lower == upper:
-                self.equations[i] = lower
-                continue
-            for sign, side in ((1, lower), (-1, upper)):
-                if side is not None and is_met(side, scale, value, system.coefficient_scale, near):
-                    self.rows.append(_TightRow(i, side, sign))
-                    break
+        for i, value in enumerate(system.activities(base)):
+            self._add_row(i, value)
+
+    def _add_row(self, row: int, activity: int) -> None:
+        """Adds a row to `equations`, or to `rows` where it meets a bound."""
+        system = self.system
+        lower, upper = system.row_lower[row], system.row_upper[row]
+        if lower is not None and lower == upper:
+            self.equations[row] = lower
+            return
+        for sign, side in ((1, lower), (-1, upper)):
+            scale = system.coefficient_scale
+            if side is not None and is_met(side, system.side_scale, activity, scale, self.near):
+                self.rows.append(_TightRow(row, side, sign))
+                return
 
 
 class _DirectionProgram:
@@ -135,33 +142,36 @@ class _DirectionProgram:
     def program(self) -> DoubleProgram:
         """As CLP takes it: each row over its greatest coefficient."""
         count = len(self.tight.equations)
-        places = {i: (place, 1) for place, i in enumerate(self.tight.equations)}
-        for place, (row, _, sign) in enumerate(self.tight.rows, count):
-            places[row] = (place, sign)
-        rows = self.system.matrix.rows
-        sizes = {i: max((abs(a) for _, a in rows[i]), default=1) for i in places}
-        starts, entry_rows, values = array("i", [0]), array("i"), array("d")
-        for j, parts in enumerate(self.parts):
-            turn = self.tight.sign[j] or 1
-            column = [
-                (places[i][0], a * turn * places[i][1] / sizes[i])
-                for i, a in (self.system.matrix.column(j) if parts else ())
-                if i in places
-            ]
+        rooms = len(self.tight.rows)
+        starts = array("i", [0])
+        entry_rows = array("i")
+        values = array("d")
+        for parts, column in zip(self.parts, self._columns()):
             for _ in parts:
                 entry_rows.extend([i for i, _ in column])
                 values.extend([a for _, a in column])
                 starts.append(len(entry_rows))
-        for place in range(count, count + len(self.tight.rows)):
-            entry_rows.append(place)
-            values.append(-1.0)
-            starts.append(len(entry_rows))
-        rooms = len(self.tight.rows)
-        row_upper: List[Optional[float]] = [0.0] * count + [None] * rooms
         columns = SparseColumns(starts, entry_rows, values)
-        return DoubleProgram(
-            self.lower, self.upper, self.costs, [0.0] * (count + rooms), row_upper, columns
-        )
+        columns = columns.with_units((place, -1.0) for place in range(count, count + rooms))
+        row_upper: List[Optional[float]] = [0.0] * count + [None] * rooms
+        row_lower: List[Optional[float]] = [0.0] * (count + rooms)
+        return DoubleProgram(self.lower, self.upper, self.costs, row_lower, row_upper, columns)
+
+    def _columns(self) -> Iterator[List[Tuple[int, float]]]:
+        """By unknown its coefficients in rows of the program; none of one that is fixed."""
+        places = {row: (place, 1) for place, row in enumerate(self.tight.equations)}
+        for place, (row, _, sign) in enumerate(self.tight.rows, len(places)):
+            places[row] = (place, sign)
+        rows = self.system.matrix.rows
+        sizes = {i: max((abs(a) for _, a in rows[i]), default=1) for i in places}
+        for j, parts in enumerate(self.parts):
+            turn = self.tight.sign[j] or 1
+            entries = self.system.matrix.column(j) if parts else []
+            yield [
+                (places[i][0], a * turn * places[i][1] / sizes[i])
+                for i, a in entries
+                if i in places
+            ]
 
     def read(self, solution: Sequence[float]) -> InsideDirection:
         """The direction that a solution of this linear program means.
@@ -172,20 +182,26 @@ class _DirectionProgram:
         Args:
             solution: What CLP found, by column of this program.
         """
-        direction: List[float] = []
+        direction = [0.0] * len(self.parts)
         fixed: Dict[int, Fraction] = {}
-        for j, (sign, parts) in enumerate(zip(self.tight.sign, self.parts)):
+        for j, parts in enumerate(self.parts):
             moved = sum(solution[k] for k in parts)
-            is_free = bool(parts) and (not sign or moved >= LEAST_ROOM)
-            direction.append(moved * (sign or 1) if is_free else 0.0)
-            if not is_free:
-                side = self.system.lower[j] if sign > 0 else self.system.upper[j]
-                fixed[j] = Fraction(side or 0, self.system.side_scale)
+            if parts and (not self.tight.sign[j] or moved >= LEAST_ROOM):
+                direction[j] = moved * (self.tight.sign[j] or 1)
+            else:
+                fixed[j] = self._tight_bound(j)
         exact_rows = dict(self.tight.equations)
         for room, (row, side, _) in zip(solution[self.first_room :], self.tight.rows):
             if room < LEAST_ROOM:
                 exact_rows[row] = side
         return InsideDirection(direction, fixed, exact_rows)
+
+    def _tight_bound(self, unknown: int) -> Fraction:
+        """The bound that an unknown meets."""
+        is_lower = self.tight.sign[unknown] > 0
+        side = (self.system.lower if is_lower else self.system.upper)[unknown]
+        assert side is not None, "a bound that is met"
+        return Fraction(side, self.system.side_scale)
 
 
 def inside_direction(

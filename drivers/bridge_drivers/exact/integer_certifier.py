@@ -224,7 +224,8 @@ class IntegerCertifier:
             claimed is not None and found.claim != "optimal" and self.program.value(claimed) > value
         )
         bound = self.store.bound
-        if bound is not None and bound.value - value > FAR_BEYOND * max(1, abs(bound.value)):
+        size = Fraction(1) if bound is None else max(Fraction(1), abs(bound.value))
+        if bound is not None and bound.value - value > FAR_BEYOND * size:
             self.is_answer_contradicted = True
         if found.is_proved and (self.is_answer_contradicted or not is_worse):
             return found

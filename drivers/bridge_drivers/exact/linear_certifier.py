@@ -10,32 +10,35 @@ as a certificate can hold, in few digits.
 from __future__ import annotations
 
 import itertools
-import math
 from fractions import Fraction
 from typing import Iterable, Iterator, List, Mapping, NamedTuple, Optional, Sequence
 
 from .short_duals import NO_MULTIPLIERS, ShortDuals, box_bound, rounded_duals, short_duals
-from .short_points import NEAR_OF_DOUBLES, NEAR_OF_EXACT, fixed_points, short_point
+from .short_points import NEAR_OF_DOUBLES, NEAR_OF_EXACT, fixed_points, point_fits, short_point
 from ..model.integer_form import Box, IntegerProgram, Point
 from ..system.deadline import Deadline
 from ..system.errors import NotSolved, TooManyBits
 from . import points
 from .basis import IterativeRefinement, NearBasis, Optimum, can_lift, exact_optimum
 from .clp import Clp, LpStatus
-from .dual_bound import MultiplierKind, fits_certificate
+from .dual_bound import MultiplierKind, dual_bound, fits_certificate
 from .evidence import NO_POINT, AnswerByPlace, Evidence, Number, too_wide_note
-from .leaf_proofs import LeafProof, LeafProver, basis_duals
+from .leaf_proofs import LeafProof, LeafProver, basis_duals, from_fractions
 from .rational_simplex import is_small
 from .refutations import Refuter
 from .row_system import BASE_BITS
-from .task import CertificationTask
+from .task import CertificationTask, ExactAnswer
 
 LARGE_ENTRIES = 3000  # from which on bases come first, where SciPy is there
 MOST_REFINED_ENTRIES = 200_000  # of a program whose bases are refined
-MOST_SHORT_ENTRIES = 200_000  # of a program whose solutions are made short
 SHORT_SECONDS = 4.0  # of the processor, for a short point, and again for short duals
+SHORT_ENTRIES_PER_SECOND = 50_000  # coefficients of a large program that have a second each
+LARGE_SHORT_ENTRIES = 200_000  # from which on duals are rounded as they are, too
 SHORT_ROUNDS = 3  # of refinement, where no exact basis is looked for
 NEAR_ENOUGH = Fraction(1, 10**9)  # of the value, or of 1: between a point and a bound
+MOST_ASKED_ENTRIES = 50_000  # of a program that another one is asked to solve in fractions
+EXACT_SHARE = 0.25  # of the time that is left, for that
+MOST_ASKED_SECONDS = 30.0
 SIMPLEX_SECONDS = 3.0  # of the simplex method in fractions, where short numbers are near already
 
 
@@ -75,9 +78,13 @@ class LinearCertifier:
         self.is_refuting = False
 
     def certify_from_point(self, point: Point) -> Iterator[Evidence]:
-        """What is proved from a feasible point, as of an answer with these values alone."""
+        """What is proved from a feasible point, as of an answer with these values alone.
+
+        The point goes to the store. Nothing more is tried of one that a refutation found here.
+        """
         self.store.add_point(point)
-        return self.certify(AnswerByPlace(point))
+        if not self.is_refuting:
+            yield from self.certify(AnswerByPlace(point))
 
     def certify(self, answer: AnswerByPlace) -> Iterator[Evidence]:
         """`optimal`, else `unbounded`, else the strongest claims that can be had.
@@ -102,6 +109,7 @@ class LinearCertifier:
             yield from self.by_bases(self.bases(clp))
             if is_large and self.optimum is None:
                 yield from self._by_points(answer, clp)
+            yield from self._by_exact_solver()
             self.add_short_numbers(clp)
         yield from self._by_rational_simplex(answer, clp)
         yield from self._by_what_is_known()
@@ -141,26 +149,51 @@ class LinearCertifier:
             self.refinement = IterativeRefinement(self.program, clp, self.task.deadline)
             yield from self.refinement.bases()
 
+    def _by_exact_solver(self) -> Iterator[Evidence]:
+        """`optimal` by another program that solves in fractions, where no basis had the optimum.
+
+        It is asked of programs of at most MOST_ASKED_ENTRIES coefficients, in a search with
+        `proves`, and has EXACT_SHARE of the time that is left. What it answers is looked at here:
+        where the point is not feasible, or the duals do not meet its value, it is no optimum.
+        """
+        ask = self.task.exact_solver
+        is_small_enough = self.program.matrix.count <= MOST_ASKED_ENTRIES
+        if ask is None or not is_small_enough or not self.task.options.proves:
+            return
+        if self.optimum is None and not self.store.note:
+            deadline = self.task.deadline
+            deadline.tell_step("the exact optimum by QSopt_ex")
+            found = ask(Deadline(min(EXACT_SHARE * deadline.left(), MOST_ASKED_SECONDS)))
+            if found is not None and self.program.is_feasible(found.point):
+                yield from self._by_exact_answer(found)
+
+    def _by_exact_answer(self, found: ExactAnswer) -> Iterator[Evidence]:
+        """`optimal` at a feasible point where the duals meet its value; sets `optimum` then."""
+        duals = {i: self.program.sign * y for i, y in found.duals.items()}
+        leaf = from_fractions(self.program, duals, MultiplierKind.DUAL)
+        bound = dual_bound(self.program, leaf, self._box())
+        if bound.is_finite and bound.value == self.program.value(found.point):
+            self.optimum = Optimum(found.point, leaf)
+            yield from self.store.claim_of_optimum(*self.optimum)
+
     def add_short_numbers(self, clp: Clp) -> None:
         """Adds to the store a point and a bound in short numbers, near each other.
 
-        Of a program with more than MOST_SHORT_ENTRIES coefficients the duals are CLP's, rounded,
-        and there is no point.
+        The exact optimum is the point where that fits by itself, and only its duals do not.
 
         Args:
             clp: The relaxation at its optimum.
         """
-        program = self.program
-        if program.matrix.count > MOST_SHORT_ENTRIES:
-            self.add_short_duals(rounded_duals(program, dict(enumerate(clp.duals()))))
-            return
         near = self.near_optimum(clp)
-        self.task.deadline.tell_step("short numbers")
-        limit = Deadline(SHORT_SECONDS, of_processor=True)
-        point = short_point(program, near.point, near.near, limit)
+        self.task.deadline.tell_step("short duals")
+        self._add_short_duals(near)
+        self.task.deadline.tell_step("a short point")
+        if self.optimum is not None and point_fits(self.program, self.optimum.point):
+            self.store.add_point(self.optimum.point)
+            return
+        point = short_point(self.program, near.point, near.near, self._short_deadline())
         if point is not None:
             self.store.add_point(point.point)
-        self._add_short_duals(near)
 
     def add_short_bound(self, clp: Clp) -> None:
         """Adds to the store the bound of duals in short numbers, as of the relaxation of an integer
@@ -169,18 +202,26 @@ class LinearCertifier:
         Args:
             clp: The relaxation at its optimum.
         """
-        if self.program.matrix.count > MOST_SHORT_ENTRIES:
-            self.add_short_duals(rounded_duals(self.program, dict(enumerate(clp.duals()))))
-        else:
-            self._add_short_duals(self.near_optimum(clp))
+        self._add_short_duals(self.near_optimum(clp))
 
     def _add_short_duals(self, near: NearOptimum) -> None:
-        """Adds to the store the bound of duals in short numbers."""
-        limit = Deadline(SHORT_SECONDS, of_processor=True)
-        value = value_near(self.program, near)
-        duals = short_duals(self.program, near.duals, value, near.near, limit)
+        """Adds to the store the bound of duals in short numbers; of a large program that of rounded
+        ones, too, where those are no better."""
+        program = self.program
+        value = value_near(program, near)
+        duals = short_duals(program, near.duals, value, near.near, self._short_deadline())
         if duals is not None:
             self.add_short_duals([duals])
+        if duals is None or program.matrix.count > LARGE_SHORT_ENTRIES:
+            one = 1 << BASE_BITS
+            doubles = {i: v / one for i, v in enumerate(near.duals)}
+            self.add_short_duals(rounded_duals(program, doubles))
+
+    def _short_deadline(self) -> Deadline:
+        """The time for a short point, or for short duals: SHORT_SECONDS, or more of a large
+        program."""
+        by_size = self.program.matrix.count / SHORT_ENTRIES_PER_SECOND
+        return Deadline(max(SHORT_SECONDS, by_size), of_processor=True)
 
     def near_optimum(self, clp: Clp) -> NearOptimum:
         """The exact optimum where it is known, else the refined one, else CLP's.
@@ -196,11 +237,12 @@ class LinearCertifier:
             ]
             return NearOptimum(fixed_points(point), fixed_points(duals), NEAR_OF_EXACT)
         refined = self.refinement
-        if refined is None or not refined.rounds:
+        is_large = self.program.matrix.count > MOST_REFINED_ENTRIES
+        if not is_large and (refined is None or not refined.rounds):
             refined = IterativeRefinement(self.program, clp, self.task.deadline)
             for _ in itertools.islice(refined.bases(), SHORT_ROUNDS):
                 pass
-        if refined.rounds:
+        if refined is not None and refined.rounds:
             return NearOptimum(refined.point, refined.duals, NEAR_OF_EXACT)
         x, duals_of_clp = clp.values(), clp.duals()
         return NearOptimum(fixed_points(x), fixed_points(duals_of_clp), NEAR_OF_DOUBLES)
@@ -239,8 +281,10 @@ class LinearCertifier:
         start = answer
         if clp is not None:
             start = AnswerByPlace(clp.values(), None, clp.basis())
-        seconds = SIMPLEX_SECONDS if self.store.is_closed(NEAR_ENOUGH) else math.inf
-        yield from self.refuter.by_rational_simplex(start, seconds)
+        limit = Deadline()
+        if self.store.is_closed(NEAR_ENOUGH):
+            limit = Deadline(SIMPLEX_SECONDS, of_processor=True)
+        yield from self.refuter.by_rational_simplex(start, limit)
 
     def _by_what_is_known(self) -> Iterator[Evidence]:
         """`within` by a point and a bound in short numbers, else what there is.

@@ -156,7 +156,7 @@ class PeelingOrder:
         """A row with unknowns of its own stands in line, by what it costs in digits."""
         row = self.rows[name]
         common = gcd(*(row[j] for j in self.own[name]))
-        kind = 0 if common == 1 else 1 if without_twos_and_fives(common) == 1 else 2
+        kind = int(common != 1) + int(without_twos_and_fives(common) != 1)
         self.queues[kind].append(name)
 
     def _order(self) -> bool:
@@ -171,13 +171,14 @@ class PeelingOrder:
 
     def _advance(self) -> bool:
         """Takes one step; False: there is too much work."""
-        free, decimal, other = self.queues
+        free, *costly = self.queues
         if free:
             self._peel(free.popleft())
             return True
-        pivot = self._unit_pivot() if self.eager and len(self.rows) <= self.looks_at else None
-        if pivot is None and (decimal or other):
-            self._peel((decimal or other).popleft())
+        pivot = self._unit_pivot()
+        waiting = next(filter(None, costly), None)
+        if pivot is None and waiting is not None:
+            self._peel(waiting.popleft())
             return True
         pivot = pivot or self._pivot()
         if pivot is None:
@@ -215,23 +216,27 @@ class PeelingOrder:
         Where there is none, none is looked for until LOOK_AGAIN of the rows are left; after
         MOST_LOOKED coefficients never again.
         """
-        best: Optional[_Pivot] = None
+        if not self.eager or len(self.rows) > self.looks_at:
+            return None
+        found: List[_Pivot] = []
         for count, name in enumerate(self._shortest(), 1):
             row = self.rows[name]
-            if len(row) > MOST_UNIT_LENGTH or best is not None and count > UNIT_ROWS:
+            if len(row) > MOST_UNIT_LENGTH or found and count > UNIT_ROWS:
                 break
-            self.looked += len(row)
-            for j, a in row.items():
-                rows = len(self.rows_of[j])
-                if abs(a) == 1 and rows > 1:
-                    key = _Pivot((len(row) - 1) * (rows - 1), name, j)
-                    best = key if best is None else min(best, key)
-        if self.looked > MOST_LOOKED or self.work > MOST_WORK // 4:
-            self.eager = False
+            found += self._units_of(name)
+        self.eager = self.looked <= MOST_LOOKED and self.work <= MOST_WORK // 4
+        best = min(found, default=None)
         if best is not None and best.cost <= MOST_UNIT_FILL:
             return best
         self.looks_at = int(LOOK_AGAIN * len(self.rows))
         return None
+
+    def _units_of(self, name: int) -> List[_Pivot]:
+        """The unknowns of coefficient 1 that a row has and others have, too."""
+        row = self.rows[name]
+        self.looked += len(row)
+        units = [j for j, a in row.items() if abs(a) == 1 and len(self.rows_of[j]) > 1]
+        return [_Pivot((len(row) - 1) * (len(self.rows_of[j]) - 1), name, j) for j in units]
 
     def _pivot(self) -> Optional[_Pivot]:
         """An unknown of a short row that brings few coefficients and digits in (Markowitz)."""

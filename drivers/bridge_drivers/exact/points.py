@@ -28,7 +28,7 @@ INTEGER_TOLERANCE = 1e-3  # how far from whole numbers the integer columns of a 
 NEAR_BOUND = Fraction(1, 10**9)  # of a bound's size, or of 1: a value is meant to be the bound
 NEAR_POINT = Fraction(1, 10**5)  # of a value's size, or of 1: how far it may be moved
 DENOMINATORS = (1, 2, 12, 100, 1000, 10**6)  # the largest ones of fractions that are tried
-SHORT_SECONDS = 2.0  # of the processor, for the other columns in short numbers
+SHORT_SECONDS = 1.0  # of the processor, for the other columns in short numbers
 ZERO = Fraction(0)
 ONE = Fraction(1)
 
@@ -242,16 +242,29 @@ def _best_with_fixed(
     found = vertex(around, clp.basis(), clp.values())
     if found is not None and all(map(fits_certificate, found)):
         return found
-    if found is None and not any(around.costs):
-        return best_nearby_point(program, clp.values())
+    near = list(nearby_points(program, clp.values()))
+    if not near or found is not None:
+        short = _short_with_fixed(around, found, clp.values())
+        if short is not None and program.is_feasible(short):
+            near.append(short)
+    return min(near, key=program.value) if near else found
+
+
+def _short_with_fixed(
+    around: IntegerProgram, optimum: Optional[Point], x: Sequence[float]
+) -> Optional[Point]:
+    """A point in short numbers near an optimum under fixed columns, which stay.
+
+    Args:
+        around: The program with these columns fixed.
+        optimum: The exact one, too wide for a certificate; None: it is not known.
+        x: About the same in doubles.
+    """
     limit = Deadline(SHORT_SECONDS, of_processor=True)
-    if found is None:
-        short = short_point(around, fixed_points(clp.values()), NEAR_OF_DOUBLES, limit)
-    else:
-        short = short_point(around, fixed_points(found), NEAR_OF_EXACT, limit)
-    if short is not None and program.is_feasible(short.point):
-        return short.point
-    return best_nearby_point(program, clp.values()) or found
+    near = NEAR_OF_DOUBLES if optimum is None else NEAR_OF_EXACT
+    base = fixed_points(x) if optimum is None else fixed_points(optimum)
+    found = short_point(around, base, near, limit)
+    return None if found is None else found.point
 
 
 def rounded_integers(program: IntegerProgram, x: Sequence[Number]) -> Dict[int, Fraction]:

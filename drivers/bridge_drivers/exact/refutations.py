@@ -13,6 +13,7 @@ import math
 from typing import Callable, Iterator, Optional, Union
 
 from ..model.integer_form import IntegerProgram, Point
+from ..system.deadline import Deadline
 from ..system.errors import SearchEnded
 from . import points
 from .certificate import refutation_lines
@@ -109,7 +110,7 @@ class Refuter:
                 yield evidence._replace(duals={})
 
     def by_rational_simplex(
-        self, answer: AnswerByPlace = AnswerByPlace(), seconds: float = math.inf
+        self, answer: AnswerByPlace = AnswerByPlace(), limit: Deadline = Deadline()
     ) -> Iterator[Evidence]:
         """Yields what is true of a small linear program, from the basis of an answer, by the
         simplex method in fractions.
@@ -121,11 +122,11 @@ class Refuter:
         Args:
             answer: Its basis and values are where the method begins; without them, at the rows'
                 basis and near 0.
-            seconds: That it may take, beside the deadline.
+            limit: When it ends, if that is before the deadline.
         """
         self.task.deadline.tell_step("the simplex method in fractions")
         try:
-            ended = self._run_rational_simplex(self.program, answer, seconds)
+            ended = self._run_rational_simplex(self.program, answer, limit)
         except SearchEnded as late:
             yield not_proved(late)
             return
@@ -224,21 +225,24 @@ class Refuter:
         return self.store.claim_of_tree(portfolio.best)
 
     def _run_rational_simplex(
-        self, program: IntegerProgram, answer: AnswerByPlace, seconds: float = math.inf
+        self, program: IntegerProgram, answer: AnswerByPlace, limit: Deadline = Deadline()
     ) -> SimplexResult:
         """Runs the simplex method in fractions, from the basis of an answer, or from that of the
         rows.
 
         Args:
             program: The task's, or a cone or relaxation of it with as many columns.
-            seconds: That it may take, beside the deadline.
+            limit: When it ends, if that is before the deadline.
 
         Raises:
             SearchEnded: The time is over, or an interrupt came.
         """
-        deadline = self.task.deadline
-        until = deadline.spent() + seconds
-        tableau = RationalSimplex(program, lambda: deadline.check_search(0, until))
+
+        def check() -> None:
+            self.task.deadline.check_search(0, math.inf)
+            limit.check()
+
+        tableau = RationalSimplex(program, check)
         columns = answer.basis.columns if answer.basis is not None else []
         tableau.install_basis(columns, answer.doubles() or [0.0] * program.n)
         return tableau.run()

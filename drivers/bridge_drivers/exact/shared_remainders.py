@@ -169,7 +169,9 @@ def _cost_of_division(coefficient: int) -> Tuple[bool, int]:
 def _remainder(step: Step, solution: RoundedSolution) -> Tuple[int, int]:
     """What is left of a row at a solution, its side less its activity: numerator and denominator,
     which is above 0, not in lowest terms."""
-    numerators, others, unit = solution.numerators, solution.others, solution.unit
+    numerators = solution.numerators
+    others = solution.others
+    unit = solution.unit
     left = -sum([a * numerators[j] for j, a in step.coefficients.items()])
     side = step.side
     if unit % side.denominator == 0:
@@ -222,23 +224,32 @@ def shared(pairs: Coefficients, total: int) -> Optional[Moves]:
         None where the common factor of the coefficients does not divide the total.
     """
     pairs = sorted(pairs, key=lambda pair: abs(pair[1]))
-    size = sum(a * a for _, a in pairs)
     found: Moves = {}
-    for _ in range(ROUNDS if total else 0):
-        first = {j: (2 * total * a + size) // (2 * size) for j, a in pairs}
-        total -= sum(a * first[j] for j, a in pairs)
-        for j, k in first.items():
-            found[j] = found.get(j, 0) + k
-        if not total or not any(first.values()):
+    for _ in range(ROUNDS):
+        first = _least_norm(pairs, total)
+        if not any(first.values()):
             break
+        total -= sum(a * first[j] for j, a in pairs)
+        _add_moves(found, first)
     if not total:
         return found
     last = _by_one(pairs[0], total) or _by_pair(pairs, total) or _by_euclid(pairs, total)
     if last is None:
         return None
-    for j, k in last.items():
-        found[j] = found.get(j, 0) + k
+    _add_moves(found, last)
     return found
+
+
+def _least_norm(pairs: Coefficients, total: int) -> Moves:
+    """The solution of the least norm, rounded to whole numbers."""
+    size = sum(a * a for _, a in pairs)
+    return {j: (2 * total * a + size) // (2 * size) for j, a in pairs}
+
+
+def _add_moves(found: Moves, more: Moves) -> None:
+    """Adds moves to moves."""
+    for j, k in more.items():
+        found[j] = found.get(j, 0) + k
 
 
 def _by_one(pair: Tuple[int, int], total: int) -> Optional[Moves]:
@@ -285,10 +296,10 @@ def _by_euclid(pairs: Coefficients, total: int) -> Optional[Moves]:
 def _extended_gcd(a: int, b: int) -> Tuple[int, int, int]:
     """A common divisor g of both, of either sign, that is greatest in size, and u, w with
     u a + w b = g."""
-    u, w, next_u, next_w = 1, 0, 0, 1
-    while b:
-        quotient = a // b
-        a, b = b, a - quotient * b
-        u, next_u = next_u, u - quotient * next_u
-        w, next_w = next_w, w - quotient * next_w
-    return a, u, w
+    first = (a, 1, 0)
+    second = (b, 0, 1)
+    while second[0]:
+        quotient = first[0] // second[0]
+        rest = [x - quotient * y for x, y in zip(first, second)]
+        first, second = second, (rest[0], rest[1], rest[2])
+    return first

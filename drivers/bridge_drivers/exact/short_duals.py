@@ -14,7 +14,6 @@ from fractions import Fraction
 from math import lcm
 from typing import Dict, List, Mapping, NamedTuple, Optional, Sequence
 
-from ..formats.numbers import LARGEST_INTEGER
 from ..model.integer_form import Box, IntegerProgram
 from ..system.deadline import Deadline
 from .dual_bound import (
@@ -22,11 +21,12 @@ from .dual_bound import (
     MultiplierKind,
     Multipliers,
     dual_bound,
-    has_needed_bound,
+    fits_certificate,
+    needed_column_bound,
     needed_row_bound,
 )
 from .inside_direction import InsideDirection
-from .leaf_proofs import repaired_bound, rounded
+from .leaf_proofs import from_fractions, repaired_bound, rounded
 from .row_system import BASE_BITS, system_of_duals
 from .shared_remainders import RoundedSolution
 from .short_solutions import Judged, ShortSolutions, Trial
@@ -35,6 +35,7 @@ from .work_limit import check_work
 
 DECIMAL_DIGITS = (8, 10, 12)  # beyond the first of the largest dual
 DIGITS_OF_BOUND = 12
+ZERO_REDUCED_COST = 1e-9  # up to this size one counts as 0
 MOST_COMMON_BITS = 4000  # of a common denominator of duals that fit
 NO_MULTIPLIERS = Multipliers({}, 1, MultiplierKind.DUAL)  # the leaf that rests on bounds alone
 
@@ -100,39 +101,39 @@ class _DualJudge:
         The first order of the rule of weak duality: what reduced costs rest on stays, and those
         that are 0 rest on what the direction makes of them.
         """
-        program, one = self.program, float(1 << BASE_BITS)
+        program = self.program
         changed = 0.0
         for i, v in enumerate(inside.direction):
             if v:
-                sign = self.base[i] or v
-                side = program.bound_as_double(needed_row_bound(program, i, sign))
-                changed += v * (side or 0.0)
-        for j, column in enumerate(program.by_column):
-            slope = -sum(a * inside.direction[i] for i, a in column) / program.row_scale
-            if not slope:
-                continue
-            cost = program.costs[j] / program.cost_scale
-            reduced = cost - sum(a * (self.base[i] / one) for i, a in column) / program.row_scale
-            is_positive = (reduced if abs(reduced) > 1e-9 else slope) > 0
-            end = program.lower[j] if is_positive else program.upper[j]
-            changed += slope * (program.bound_as_double(end) or 0.0)
+                side = needed_row_bound(program, i, self.base[i] or v)
+                changed += v * (program.bound_as_double(side) or 0.0)
+        for j in range(program.n):
+            changed += self._change_of_column(j, inside.direction)
         return abs(changed) / float(self.size)
+
+    def _change_of_column(self, column: int, direction: Sequence[float]) -> float:
+        """What the reduced cost of a column changes in the bound along a direction."""
+        program = self.program
+        entries = program.by_column[column]
+        slope = -sum(a * direction[i] for i, a in entries) / program.row_scale
+        if not slope:
+            return 0.0
+        one = float(1 << BASE_BITS)
+        reduced = program.costs[column] / program.cost_scale
+        reduced -= sum(a * (self.base[i] / one) for i, a in entries) / program.row_scale
+        sign = reduced if abs(reduced) > ZERO_REDUCED_COST else slope
+        return slope * (program.bound_as_double(needed_column_bound(self.box, column, sign)) or 0.0)
 
     def judged(self, solution: RoundedSolution) -> Judged[ShortDuals] | Trial:
         """The duals, if their bound is finite."""
-        values = {j: v for j, v in enumerate(solution.fractions()) if v}
-        if any(
-            abs(v.numerator) > LARGEST_INTEGER or v.denominator > LARGEST_INTEGER
-            for v in values.values()
-        ):
-            return Trial(is_wide=True)
-        if any(not has_needed_bound(self.program, i, v) for i, v in values.items()):
-            return Trial(is_wide=False)
+        values = {i: v for i, v in enumerate(solution.fractions()) if v}
         common = lcm(1, *{v.denominator for v in values.values()})
-        if common.bit_length() > MOST_COMMON_BITS:
+        fits = all(map(fits_certificate, values.values()))
+        if not fits or common.bit_length() > MOST_COMMON_BITS:
             return Trial(is_wide=True)
-        numerators = {i: v.numerator * (common // v.denominator) for i, v in values.items()}
-        duals = Multipliers(numerators, common, MultiplierKind.DUAL)
+        duals = from_fractions(self.program, values, MultiplierKind.DUAL)
+        if len(duals.numerators) < len(values):  # one lacks the bound that its sign needs
+            return Trial(is_wide=False)
         bound = dual_bound(self.program, duals, self.box)
         if not bound.is_finite:
             return Trial(is_wide=False)

@@ -11,8 +11,9 @@ from math import lcm
 from typing import NamedTuple, Optional, Sequence, Union
 
 from ..formats.numbers import LARGEST_INTEGER
-from ..model.integer_form import IntegerProgram, Point
+from ..model.integer_form import IntegerProgram, Point, over_common_denominator
 from ..system.deadline import Deadline
+from .dual_bound import fits_certificate
 from .inside_direction import InsideDirection
 from .row_system import BASE_BITS, fixed_point, system_of_points
 from .shared_remainders import RoundedSolution
@@ -116,3 +117,11 @@ def _numbers_fit(solution: RoundedSolution) -> bool:
     return all(
         abs(v.numerator) <= most and v.denominator <= most for v in set(solution.fractions())
     )
+
+
+def point_fits(program: IntegerProgram, point: Point) -> bool:
+    """Whether a certificate can hold a point, and the judge add up its rows and its objective."""
+    if not all(map(fits_certificate, point)):
+        return False
+    numerators, common = over_common_denominator(point)
+    return point_sums_fit(program, numerators, common)

@@ -67,8 +67,8 @@ class Stage(NamedTuple):
     steps: Sequence[int]
 
 
-SIMPLE_WAYS = (Way(1, True), Way(10**14, True))
-OTHER_WAYS = (Way(10**7, True), Way(10**40, True), Way(1, False))
+SIMPLE_WAYS = (Way(1, shares=True), Way(10**14, shares=True))
+OTHER_WAYS = (Way(10**7, shares=True), Way(10**40, shares=True), Way(1, shares=False))
 STAGES = (
     Stage(SIMPLE_WAYS, (0, 3)),
     Stage(OTHER_WAYS, (0, 3)),
@@ -171,22 +171,30 @@ class ShortSolutions(Generic[Short]):
         Args:
             beyond: Of `Stage.steps`.
         """
-        step = beyond + max(LEAST_PLACES, math.ceil(math.log10(rate / GOAL)) if rate else 0)
-        if step < LEAST_PLACES:
-            return False
+        step = beyond + step_places(rate)
         most = min(MOST_PLACES, step + PLACES_APART * MOST_TRIES)
-        for places in range(step + 1, most, PLACES_APART):
+        for places in range(step + 1, most, PLACES_APART) if step >= LEAST_PLACES else ():
             found = self._tried(rounder, Rounding(places, step, *way))
-            if isinstance(found, Judged):
-                if self.best is None or found.gap < self.best.gap:
-                    self.best = found
-                if found.gap <= GOAL or beyond < 0:
-                    return found.gap <= GOAL
-            elif found.is_wide or self.deadline.is_over():
-                return False
+            if isinstance(found, Trial):
+                if found.is_wide or self.deadline.is_over():
+                    return False
+                continue
+            if self.best is None or found.gap < self.best.gap:
+                self.best = found
+            if found.gap <= GOAL or beyond < 0:
+                return found.gap <= GOAL
         return False
 
     def _tried(self, rounder: Rounder, rounding: Rounding) -> Judged[Short] | Trial:
         """One rounding, judged."""
         solution = rounder.rounded(rounding)
         return Trial(is_wide=True) if solution is None else self.judge(solution)
+
+
+def step_places(rate: float) -> int:
+    """Of the longest step that stays within GOAL: it is 10 to the power of minus this.
+
+    Args:
+        rate: By how much the value changes along the whole direction, as a share of it, or of 1.
+    """
+    return max(LEAST_PLACES, math.ceil(math.log10(rate / GOAL))) if rate else LEAST_PLACES

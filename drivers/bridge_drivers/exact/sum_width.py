@@ -9,7 +9,6 @@ proposed. Nothing rests on this: the judge says what it says.
 
 from __future__ import annotations
 
-from fractions import Fraction
 from math import gcd
 from typing import Iterable, Iterator, List, Optional, Sequence, Tuple
 
@@ -57,15 +56,21 @@ def point_sums_fit(program: IntegerProgram, numerators: Sequence[int], denominat
     objective: List[Ratio] = [(program.constant, program.cost_scale)]
     scale = program.cost_scale * denominator
     objective += [(c * v, scale) for c, v in zip(program.costs, numerators) if c and v]
-    if running_sum(objective) is None:
-        return False
+    return running_sum(objective) is not None and all(
+        running_sum(terms) is not None for terms in _wide_rows(program, numerators, denominator)
+    )
+
+
+def _wide_rows(
+    program: IntegerProgram, numerators: Sequence[int], denominator: int
+) -> Iterator[Iterator[Ratio]]:
+    """The terms of rows at a point whose sums may not fit: over one denominator they do not."""
     scale = program.row_scale * denominator
     norms = program.matrix.weighted_norms([abs(v) for v in numerators])
+    most = LARGEST_INTEGER if scale <= LARGEST_INTEGER else -1
     for row, norm in zip(checked(program.rows), norms):
-        if norm > LARGEST_INTEGER or scale > LARGEST_INTEGER:
-            if running_sum((a * numerators[j], scale) for j, a in row if numerators[j]) is None:
-                return False
-    return True
+        if norm > most:
+            yield ((a * numerators[j], scale) for j, a in row if numerators[j])
 
 
 def leaf_sums_fit(program: IntegerProgram, leaf: Multipliers, bound: DualBound, box: Box) -> bool:
@@ -100,8 +105,3 @@ def _terms_of_bound(
         end = needed_column_bound(box, j, cost) if cost else None
         if end:
             yield cost * end, reduced_scale
-
-
-def value_fits(value: Fraction) -> bool:
-    """Whether a number of a claim fits."""
-    return abs(value.numerator) <= LARGEST_INTEGER and value.denominator <= LARGEST_INTEGER

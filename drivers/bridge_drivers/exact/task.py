@@ -9,10 +9,11 @@ from __future__ import annotations
 from dataclasses import dataclass, field
 from fractions import Fraction
 from functools import cached_property
-from typing import NamedTuple, Optional, Sequence
+from typing import Callable, Mapping, NamedTuple, Optional, Sequence
 
 from .search_deadline import SearchDeadline
 from ..model.integer_form import IntegerProgram, Point
+from ..system.deadline import Deadline
 from . import points
 from .clp import Clp, LpStatus, library
 from .evidence import AnswerByPlace, EvidenceStore, Number
@@ -57,6 +58,24 @@ class SolvedRelaxation(NamedTuple):
         return self.clp if self.status is LpStatus.OPTIMAL else None
 
 
+class ExactAnswer(NamedTuple):
+    """The optimum of a linear program in fractions, as another program answered it.
+
+    It is believed in nothing: the certifier looks whether it is feasible and optimal.
+
+    Attributes:
+        point: By column.
+        duals: By row, rates of change of the objective in its own sense.
+    """
+
+    point: Point
+    duals: Mapping[int, Fraction]
+
+
+# asks another program for an exact optimum within a deadline; None: it has none
+ExactSolver = Callable[[Deadline], Optional[ExactAnswer]]
+
+
 @dataclass
 class CertificationTask:
     """One program with the answer to it.
@@ -68,6 +87,7 @@ class CertificationTask:
         options: What is asked.
         answer: What a solver said.
         pool: Other processes that search; None: this one alone.
+        exact_solver: Of the same program; None: there is none.
         is_linear: The program has no integer columns.
     """
 
@@ -77,6 +97,7 @@ class CertificationTask:
     options: SearchOptions = SearchOptions()
     answer: AnswerByPlace = AnswerByPlace()
     pool: Optional[WorkerPool] = None
+    exact_solver: Optional[ExactSolver] = None
     is_linear: bool = field(init=False)
 
     def __post_init__(self) -> None:

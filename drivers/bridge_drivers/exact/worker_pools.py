@@ -32,7 +32,6 @@ from typing import (
     Optional,
     Sequence,
     Tuple,
-    TypeVar,
 )
 
 from . import points
@@ -56,9 +55,6 @@ CONNECT_SECONDS = 10.0  # for a scheduler and its workers to answer
 LEAVE_SECONDS = 2.0  # for a scheduler to let this process go
 EXACT_POINT_SECONDS = 30.0
 MOST_CACHED_SEARCHES = 2  # of one process
-
-
-Answer = TypeVar("Answer")
 
 
 class SearchProblem(NamedTuple):
@@ -286,11 +282,11 @@ class ProcessPool(WorkerPool):
             self._end_line.close()
 
 
-def answered_within(seconds: float, ask: Callable[[], Answer], what: str) -> Answer:
+def answered_within(deadline: Deadline, ask: Callable[[], Any], what: str) -> Any:
     """What a call answers that may never return: it is made in a thread of its own, and left there.
 
     Args:
-        seconds: That it has.
+        deadline: When it is given up; one that has an end.
         ask: The call; what it raises is raised here.
         what: Has not answered, in words.
 
@@ -308,13 +304,12 @@ def answered_within(seconds: float, ask: Callable[[], Answer], what: str) -> Ans
 
     threading.Thread(target=run, daemon=True).start()
     try:
-        answer, fault = answers.get(timeout=seconds)
+        answer, fault = answers.get(timeout=max(deadline.left(), 0.0))
     except queue.Empty:
-        raise PoolFailed(f"{what} did not answer in {seconds:.3g} seconds") from None
+        raise PoolFailed(f"{what} did not answer in {deadline.seconds:.3g} seconds") from None
     if fault is not None:
         raise fault
-    found: Answer = answer
-    return found
+    return answer
 
 
 class DaskPool(WorkerPool):
@@ -326,20 +321,20 @@ class DaskPool(WorkerPool):
 
     Args:
         address: Of the scheduler.
-        seconds: In which the scheduler, and then its workers, have to answer.
+        limit: Seconds in which the scheduler, and then its workers, have to answer.
 
     Raises:
         PoolFailed: There is no package, no scheduler, or no worker that can search.
     """
 
-    def __init__(self, address: str, seconds: float = CONNECT_SECONDS) -> None:
+    def __init__(self, address: str, limit: float = CONNECT_SECONDS) -> None:
         """Connects to the scheduler, and asks all workers for their version. `workers` becomes the
         threads of those that are fit, and `note` says where others are not."""
         scheduler = f"the scheduler of Dask at {address}"
         try:
             distributed: Any = importlib.import_module("distributed")
             self.client = answered_within(
-                seconds, lambda: distributed.Client(address, timeout=seconds), scheduler
+                Deadline(limit), lambda: distributed.Client(address, timeout=limit), scheduler
             )
         except ImportError:
             raise PoolFailed(
@@ -352,7 +347,7 @@ class DaskPool(WorkerPool):
             raise PoolFailed(f"no scheduler of Dask at {address} ({fault})") from None
         try:
             versions = answered_within(
-                seconds,
+                Deadline(limit),
                 lambda: self.client.run(worker_version, on_error="return"),
                 f"a worker of {scheduler}",
             )
@@ -375,7 +370,7 @@ class DaskPool(WorkerPool):
     def close(self) -> None:
         """Leaves the cluster, whether it answers or not."""
         with contextlib.suppress(Exception):
-            answered_within(LEAVE_SECONDS, self.client.close, "the scheduler of Dask")
+            answered_within(Deadline(LEAVE_SECONDS), self.client.close, "the scheduler of Dask")
 
 
 def worker_version() -> str:
@@ -384,14 +379,14 @@ def worker_version() -> str:
     return VERSION if library() is not None else ""
 
 
-def open_pool(jobs: int, address: str, seconds: float = CONNECT_SECONDS) -> Optional[WorkerPool]:
+def open_pool(jobs: int, address: str, deadline: Optional[Deadline] = None) -> Optional[WorkerPool]:
     """The pool that a run asks for, of which no process is started yet.
 
     Args:
         jobs: Processes of this machine; 0: as many as this process may use processors.
         address: Of a scheduler of Dask, in place of these; "" for none.
-        seconds: That the whole search has: the scheduler and its workers have half of it to answer,
-            and at most CONNECT_SECONDS.
+        deadline: Of the whole search: the scheduler has a quarter of it to answer, and so have its
+            workers, both at most CONNECT_SECONDS. None for no limit.
 
     Returns:
         None where this process searches alone. A cluster that cannot be had is a pool of no workers
@@ -399,7 +394,8 @@ def open_pool(jobs: int, address: str, seconds: float = CONNECT_SECONDS) -> Opti
     """
     if address:
         try:
-            return DaskPool(address, min(CONNECT_SECONDS, max(seconds, 0.0) / 4))
+            share = max(deadline.left(), 0.0) / 4 if deadline else CONNECT_SECONDS
+            return DaskPool(address, min(CONNECT_SECONDS, share))
         except PoolFailed as fault:
             return WorkerPool(0, str(fault))
     jobs = jobs or usable_processors()

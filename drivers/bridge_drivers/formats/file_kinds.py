@@ -24,7 +24,7 @@ MODEL_ENDS = (".nl", ".mps")
 OTHER_MODEL_ENDS = (".nl.gz", ".mps", ".lp", ".mod", ".mzn")  # looked for beside a stub
 MPS_FIRST_WORD = re.compile(rb"(?:NAME|OBJSENSE|ROWS)\b")  # of one line
 NL_FIRST_LINE = re.compile(rb"[gb]\d[ \t0-9]*(?:#.*)?")
-NL_SECOND_LINE = re.compile(rb"[ \t]+\d")  # how it begins
+NL_SECOND_LINE = re.compile(rb"[ \t]*\d")  # how it begins
 LP_FIRST_WORD = re.compile(rb"(?:min|max)(?:imi[sz]e|imum)?[:\s]", re.IGNORECASE)
 LP_LINE_COMMENTS = (b"\\", b"//")
 

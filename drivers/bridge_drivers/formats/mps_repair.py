@@ -8,7 +8,18 @@ file.
 from __future__ import annotations
 
 import re
-from typing import Dict, Iterator, List, NamedTuple, Optional, Tuple
+from typing import Callable, Dict, Iterator, List, NamedTuple, Optional, Sequence, Tuple
+
+from .mps_layout_repair import (
+    Edit,
+    Repair,
+    blank_names_repair,
+    blank_sets_repair,
+    comments_repair,
+    double_bounds_repair,
+    edited,
+    name_repair,
+)
 
 BYTE_ORDER_MARK = b"\xef\xbb\xbf"
 INFINITY = re.compile(rb"(?P<sign>[-+]?)inf(?:inity)?", re.IGNORECASE)  # of one word
@@ -18,6 +29,14 @@ BARE_KINDS: Dict[Tuple[bytes, bytes], bytes] = {  # by kind and sign of the infi
     (b"UP", b""): b"PL",
     (b"UP", b"+"): b"PL",
 }
+# in this order: each is asked of the text that those before have left
+LAYOUT_REPAIRS: Sequence[Callable[[bytes], Optional[Repair]]] = (
+    comments_repair,
+    name_repair,
+    blank_names_repair,
+    blank_sets_repair,
+    double_bounds_repair,
+)
 
 
 class RepairedMps(NamedTuple):
@@ -35,19 +54,12 @@ class _Line(NamedTuple):
     words: List[bytes]
 
 
-class _Edit(NamedTuple):
-    """What is written in place of the text's bytes from `start` as far as `end`."""
-
-    start: int
-    end: int
-    text: bytes
-
-
 def repair_mps(text: bytes) -> RepairedMps:
     """The text without a byte order mark, bounds of infinity, British senses and a plain OBJNAME.
 
     An upper bound of infinity and a lower one of minus infinity are written as none. OBJNAME is
-    left out where it names the first N row, which is the objective anyway.
+    left out where it names the first N row, which is the objective anyway. What is only laid out
+    otherwise is written as it is read (`mps_layout_repair`).
     """
     notes = []
     if text.startswith(BYTE_ORDER_MARK):
@@ -63,10 +75,15 @@ def repair_mps(text: bytes) -> RepairedMps:
         notes.append("MAXIMISE and MINIMISE are read as MAX and MIN")
     if objective is not None:
         notes.append("OBJNAME names the first N row: it is left out")
-    edits = [edit for edit in (sense, objective, *bounds) if edit is not None]
+    text = edited(text, [edit for edit in (sense, objective, *bounds) if edit is not None])
+    for repair_of in LAYOUT_REPAIRS:
+        repair = repair_of(text)
+        if repair is not None:
+            text = edited(text, repair.edits)
+            notes.append(repair.note)
     if notes:
         notes.append("what is judged is the text with these changes")
-    return RepairedMps(_edited(text, edits), notes)
+    return RepairedMps(text, notes)
 
 
 def _lines(text: bytes, start: int) -> Iterator[_Line]:
@@ -91,7 +108,7 @@ def _is_comment(line: _Line) -> bool:
     return bool(line.words) and line.words[0].startswith(b"*")
 
 
-def _sense_repair(text: bytes) -> Optional[_Edit]:
+def _sense_repair(text: bytes) -> Optional[Edit]:
     """The edit that makes MAX or MIN of the first MAXIMISE or MINIMISE of the section OBJSENSE.
 
     The word may stand on the section's head or on a line below it. None where there is no such
@@ -101,20 +118,20 @@ def _sense_repair(text: bytes) -> Optional[_Edit]:
         found = BRITISH.match(words[0]) if head.words[0].upper() == b"OBJSENSE" and words else None
         if found is not None:
             at = text.rindex(words[0], line.start, line.end)
-            return _Edit(at, at + found.end(), found[1])
+            return Edit(at, at + found.end(), found[1])
     return None
 
 
-def _objective_repair(text: bytes) -> Optional[_Edit]:
+def _objective_repair(text: bytes) -> Optional[Edit]:
     """The edit that leaves OBJNAME out where it names the first N row; else None.
 
     The name may stand on the section's head or below it, but in front of ROWS alone.
     """
-    name, edit = b"", _Edit(0, 0, b"")
+    name, edit = b"", Edit(0, 0, b"")
     for head, line, words in _records(text):
         section = head.words[0].upper()
         if section == b"OBJNAME" and len(words) == 1 and not name:
-            name, edit = words[0], _Edit(head.start, min(line.end + 1, len(text)), b"")
+            name, edit = words[0], Edit(head.start, min(line.end + 1, len(text)), b"")
         elif section == b"ROWS" and len(words) > 1 and words[0].upper() == b"N":
             return edit if name == words[1] else None
     return None
@@ -141,7 +158,7 @@ def _records(text: bytes) -> Iterator[Tuple[_Line, _Line, List[bytes]]]:
             yield head, line, words
 
 
-def _bound_edits(text: bytes) -> Iterator[_Edit]:
+def _bound_edits(text: bytes) -> Iterator[Edit]:
     """The edits of the lines of the first BOUNDS section, in their order; see `_bound_edit`."""
     start = 0 if text.startswith(b"BOUNDS") else text.find(b"\nBOUNDS") + 1
     if not text.startswith(b"BOUNDS", start):
@@ -156,7 +173,7 @@ def _bound_edits(text: bytes) -> Iterator[_Edit]:
             yield edit
 
 
-def _bound_edit(text: bytes, line: _Line) -> Optional[_Edit]:
+def _bound_edit(text: bytes, line: _Line) -> Optional[Edit]:
     """The edit of a line `KIND [SET] COLUMN VALUE` whose value is an infinity that bounds nothing.
 
     LO with minus infinity becomes MI, UP with infinity PL, both without the value. None of all
@@ -171,13 +188,4 @@ def _bound_edit(text: bytes, line: _Line) -> Optional[_Edit]:
         return None
     kind_at = text.index(kind, line.start)
     value_at = text.rindex(value, line.start, line.end)
-    return _Edit(kind_at, line.end, bare + text[kind_at + len(kind) : value_at].rstrip())
-
-
-def _edited(text: bytes, edits: List[_Edit]) -> bytes:
-    """The text with its edits, which may come in any order and do not overlap."""
-    pieces, at = [], 0
-    for edit in sorted(edits):
-        pieces += [text[at : edit.start], edit.text]
-        at = edit.end
-    return b"".join([*pieces, text[at:]]) if edits else text
+    return Edit(kind_at, line.end, bare + text[kind_at + len(kind) : value_at].rstrip())

@@ -12,7 +12,6 @@ alone no copy is needed (`commands.nl_bridge`).
 
 from __future__ import annotations
 
-import contextlib
 import hashlib
 import io
 import lzma
@@ -293,7 +292,7 @@ def _opened(name: str, workspace: Workspace, limits: Limits) -> BinaryIO:
     if not stat.S_ISFIFO(os.stat(name).st_mode):
         return open(name, "rb")
     _read_once(os.path.realpath(name), name, workspace)
-    return _opened_fifo(name, limits.writer_seconds)
+    return _opened_fifo(name, limits)
 
 
 def _read_once(key: str, name: str, workspace: Workspace) -> None:
@@ -303,12 +302,12 @@ def _read_once(key: str, name: str, workspace: Workspace) -> None:
     workspace.streams.add(key)
 
 
-def _opened_fifo(name: str, seconds: float) -> BinaryIO:
+def _opened_fifo(name: str, limits: Limits) -> BinaryIO:
     """A named pipe to be read, once somebody has opened it for writing.
 
     Args:
         name: Its path.
-        seconds: That this is waited for.
+        limits: Say how long this is waited for.
 
     Raises:
         OSError: It cannot be opened.
@@ -318,8 +317,9 @@ def _opened_fifo(name: str, seconds: float) -> BinaryIO:
     waits = select.poll()
     waits.register(number, select.POLLIN)
     try:
-        if not waits.poll(seconds * 1000):
-            reason = f"it is a named pipe, and nobody wrote to it in {seconds:g} seconds"
+        if not waits.poll(limits.writer_seconds * 1000):
+            waited = f"{limits.writer_seconds:g} seconds"
+            reason = f"it is a named pipe, and nobody wrote to it in {waited}"
             raise FileFault(name, reason, FileAction.READ)
         is_blocking = True
         os.set_blocking(number, is_blocking)

@@ -15,7 +15,7 @@ from ..program.verdict import Verdict
 from ..system.errors import FileFault
 from ..system.files import OutputFiles
 from .failure import Failure, failure_of
-from .leaf_sums import LeafSums
+from ..exact.leaf_sums import LeafSums
 from .page import PageFacts, html_page
 from .tree_picture import TreePicture
 from .wording import Wording, claim_in_words, headed

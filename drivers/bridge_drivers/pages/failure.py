@@ -8,7 +8,7 @@ from typing import List, NamedTuple, Optional
 
 from ..exact.certificate import NodeKind
 from ..program.verdict import decimal, share_of
-from .leaf_sums import Interval, LeafSums, Part, SumTerm, value_at
+from ..exact.leaf_sums import Interval, LeafSums, Part, SumTerm, value_at
 from .wording import Wording, headed
 
 LEAF_FAULT = re.compile(r"leaf (\d+) (?:gap (\S+)|(too wide)|(row|bound) (\d+) has no side)")

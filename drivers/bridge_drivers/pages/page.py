@@ -12,7 +12,7 @@ from typing import Iterator, List, NamedTuple, Optional, Sequence, Tuple
 
 from ..exact.certificate import NodeKind
 from .failure import Failure
-from .leaf_sums import LeafSums, NodeContext, Part
+from ..exact.leaf_sums import LeafSums, NodeContext, Part
 from .templates import Html, filled, filled_with_rows, template_text
 from .tree_picture import TreePicture
 from .wording import Wording, exact_and_decimal

@@ -13,7 +13,7 @@ from html import escape
 from typing import Dict, Iterator, List, Mapping, NamedTuple, Optional, Tuple
 
 from ..exact.certificate import ROOT, Node, NodeKind
-from .leaf_sums import LeafSums
+from ..exact.leaf_sums import LeafSums
 from .templates import template_text
 from .wording import Wording, short_number
 

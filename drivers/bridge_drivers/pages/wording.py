@@ -1,4 +1,7 @@
-"""A certificate in sentences: what it claims, what its tree is made of, and what holds in its parts."""
+"""A certificate in sentences: what it claims, what its tree is made of, and what holds in its parts.
+
+`explanation` makes one `Wording` of each certificate that it explains.
+"""
 
 from __future__ import annotations
 
@@ -11,7 +14,7 @@ from ..formats.names import NameLists
 from ..formats.numbers import exact_decimal, nearest_double
 from ..program.verdict import Claim, Statement, sentence
 from ..system.text import counted, first_of
-from .leaf_sums import LeafSums, Part
+from ..exact.leaf_sums import LeafSums, Part
 
 MOST_TERMS = 6  # of a form that is told
 MOST_LISTED = 12  # values of a point, rows

@@ -29,7 +29,10 @@ from ..system.errors import (
 from ..system.errors import Interrupted
 from ..system.text import one_line, shortened
 from .answer import Answer
+from ..formats.sol import read_sol
+from .answer_places import is_point
 from .certification import AnswerCertifier, Returned
+from .certified_answer import certified_answer
 from .monitor import LOGGER
 from .outcome import CODES_OF_WORDS
 from .resolution import Resolution, RunFacts, proved_duals, resolve
@@ -42,6 +45,7 @@ INTERRUPTED_WORDS = {
     SolverStatus.LIMIT: "interrupted without a feasible solution",
 }
 # of an answer that there is no point, or no best one, where the search knows better
+NOT_CERTIFIED = "its values cannot be certified"  # with strict=1
 CONTRADICTED = "its own answer is contradicted by what was found, which no certificate can hold"
 # a search that ends by one of these proves nothing, and the answer stands as it is
 # what reading an answer raises where it is missing or in no known form
@@ -64,6 +68,8 @@ class Outcome:
         is_final: Whether it is proved optimal, infeasible or unbounded, or `strict` does not ask
             for that.
         kept_folder: Where the files in between are; "" where they are not kept.
+        is_certified: The .sol is the text of `bridge certified`, whose message is the verdict: it
+            is passed on as it is.
     """
 
     code: Code
@@ -75,6 +81,7 @@ class Outcome:
     stored: StoredCertificate | None = None
     is_final: bool = True
     kept_folder: str = ""
+    is_certified: bool = False
 
 
 class AnsweredRun:
@@ -241,6 +248,8 @@ class AnsweredRun:
         lines = self._notes_on_answer(answer, resolution)
         place = len(lines)  # where a line on the .sol stands
         lines += self._notes_on_search(answer, resolution)
+        if self.settings.makes_sol and self.settings.certifies_sol and not self.judge.is_mps:
+            return self._certified_outcome(resolution, verdict, lines)
         try:
             passed_on, sol = self._checked(resolution.answer, verdict, lines, place)
         except Refusal as fault:
@@ -259,6 +268,43 @@ class AnsweredRun:
             said,
             stored,
             is_final=not settings.strict or verdict.claim in FINAL,
+        )
+
+    def _certified_outcome(
+        self, resolution: Resolution, verdict: Evidence, lines: list[str]
+    ) -> Outcome:
+        """The outcome whose .sol is what `bridge certified` wrote, or one without values.
+
+        Its code is that of the .sol; where nothing could be certified it is UNSURE. Numbers that
+        the .sol does not have are not told either.
+
+        Args:
+            resolution: What would be passed on otherwise.
+            verdict: What is proved.
+            lines: Of the message, the notes on the answer and on the search.
+        """
+        certified = certified_answer(self.judge, verdict)
+        sol = certified.sol
+        code = Code.UNSURE if sol is None else sol.code
+        has_values = sol is not None and sol.statement.value is not None
+        passed_on = resolution.answer if has_values else resolution.answer.without_point(code)
+        shortfall = "" if sol is not None else resolution.shortfall or NOT_CERTIFIED
+        ruled = resolution._replace(code=code, shortfall=shortfall)
+        said = statement_of(verdict.line) if verdict.is_proved else None
+        stored = self.judge.stored(verdict)
+        last = self.judge.closing_lines(verdict, said, stored)
+        head = self._first_line(ruled, passed_on, said)
+        is_final = sol is not None and sol.statement.claim.is_final
+        return Outcome(
+            code,
+            [head, *lines, *passed_on.notes(), certified.line(), *last],
+            None if sol is None else sol.text,
+            passed_on,
+            verdict.figures,
+            said,
+            stored,
+            is_final=is_final or not self.settings.certificate.strict,
+            is_certified=sol is not None,
         )
 
     def _notes_on_answer(self, answer: Answer, resolution: Resolution) -> list[str]:
@@ -366,7 +412,10 @@ class AnsweredRun:
         if better is not None:
             returned = self.judge.returned(better, lines, place=place)
             told = self.judge.checked(returned, verdict)
-        lines.append(self.judge.check_line(returned.answer, verdict, told))
+        line = self.judge.check_line(returned.answer, verdict, told)
+        if self.settings.certificate.prove and has_point_of(returned.sol, verdict):
+            line += "; its values are the certificate's point"
+        lines.append(line)
         return returned
 
     def _verdict(self, answer: Answer) -> Evidence:
@@ -389,6 +438,11 @@ class AnsweredRun:
             if self.settings.shows_faults:
                 raise
             return not_proved(f"a fault of the driver: {shortened(one_line(repr(fault)))}")
+
+
+def has_point_of(sol: bytes, verdict: Evidence) -> bool:
+    """Whether a .sol has exactly the values of the point that was proved; not where either is none."""
+    return bool(sol) and verdict.is_proved and is_point(read_sol(sol).values, verdict.point)
 
 
 def with_proved_duals(answer: Answer, verdict: Evidence, told: str) -> Answer | None:

@@ -15,10 +15,11 @@ from ..exact.worker_pools import WorkerPool, open_pool
 from ..exact.certificate import lines_of_answer
 from ..exact.certifier import certify
 from ..exact.evidence import NOT_PROVED, AnswerByPlace, AnswerClaim, Evidence, not_proved
-from ..exact.search_deadline import SearchDeadline, SearchProgress
+from ..exact.search_deadline import SearchDeadline
 from ..exact.task import SearchOptions
 from ..model.analysis import TOLERANCE_OF_INTEGERS, worst_residual
-from ..model.linear_program import EPIGRAPH_COLUMN
+from ..model.integer_form import IntegerProgram
+from ..model.linear_program import EPIGRAPH_COLUMN, EPIGRAPH_ROW
 from ..system.deadline import Deadline
 from ..system.errors import DeadlineExceeded, ProgramFailed, UnsupportedModel
 from ..system.signals import interrupts_to
@@ -30,7 +31,9 @@ from ..solvers.base import SolverStatus
 from ..solvers.run import SolverRun
 from ..formats.numbers import decimal, decimal_or_fraction
 from .answer import Answer
-from .answer_places import answer_by_place
+from .answer_places import answer_by_place, is_point
+from .contradiction import contradiction_words
+from .exact_optimum import ExactOptimum
 from .judge import CertificateJudge
 from .judged_start import judged_start
 from .monitor import Monitor
@@ -99,6 +102,7 @@ class AnswerCertifier:
             to say.
         store: Keeps the certificate that is accepted.
         start: Values that the search may begin with; None where there are none.
+        whole_program: What was searched, in whole numbers; None before a search.
         start_note: A line for the message where it did; "" where it did not.
     """
 
@@ -134,8 +138,8 @@ class AnswerCertifier:
         self.is_out_of_time = False
         self.pool_note = ""
         self.start: Optional[StartPoint] = None
+        self.whole_program: Optional[IntegerProgram] = None
         self.start_note = ""
-        self._known: dict[str, float] = {}
         self.store = CertificateStore(
             bridge,
             model,
@@ -258,10 +262,8 @@ class AnswerCertifier:
         proves = settings.prove and not self.run.is_interrupted
         deadline = self._deadline(is_search=proves)
         judge = CertificateJudge(self.bridge, self.model, self.run.path("certificate"), deadline)
-        seconds = deadline.left()
-        pool = open_pool(settings.processes, settings.cluster, seconds) if proves else None
-        self._known = {}
-        self.monitor.progress.begin("certificate", deadline.seconds)
+        pool = open_pool(settings.processes, settings.cluster, deadline) if proves else None
+        self.monitor.stage_begins("certificate", deadline.seconds)
         try:
             with self.monitor.timing("certify"):
                 start = self.certified_start(answer, judge)
@@ -269,7 +271,7 @@ class AnswerCertifier:
                 if start is not None and not evidence.is_proved:
                     evidence = start
         finally:
-            self.monitor.progress.begin("")
+            self.monitor.stage_begins("", 0.0)
             if pool is not None:
                 pool.close()
                 self.pool_note = pool.note
@@ -348,16 +350,11 @@ class AnswerCertifier:
         Returns:
             Its duals are by the file's constraint.
         """
-        settings = self.settings.certificate
-        options = SearchOptions(
-            objective=self.settings.objective,
-            proves=proves,
-            is_relaxation=self.is_relaxed,
-            wants_bound=settings.bound,
-            shortens=settings.shorten,
-        )
         try:
-            program, factors = whole_form(self.bridge, self.model, self.program)
+            program, factors = whole_form(
+                self.bridge, self.model, self.program, self.settings.objective
+            )
+            self.whole_program = program
         except (Refusal, ProgramFailed) as fault:
             return not_proved(fault.text)
         except UnsupportedModel as fault:
@@ -378,31 +375,30 @@ class AnswerCertifier:
                 claim=claim,
                 answer=given,
                 deadline=judge.deadline,
-                on_progress=self._tell,
-                options=options,
+                on_progress=self.monitor.tell_search,
+                options=self._search_options(proves=proves),
                 pool=pool,
+                exact_solver=ExactOptimum.of(self.program, factors, judge.deadline),
             )
         if not factors:
             return evidence
         exported = {row: dual / factors.get(row, 1) for row, dual in evidence.duals.items()}
         return evidence._replace(duals=exported)
 
-    def _tell(self, progress: SearchProgress) -> None:
-        """Tells the line of progress what the search is at: its step, and what is known so far.
+    def _search_options(self, *, proves: bool) -> SearchOptions:
+        """What is asked of a search.
 
-        A bound that is told beside `cuts` is no claim yet: while cuts are made, that of before
-        stays.
+        Args:
+            proves: Whether long searches are wanted.
         """
-        found = dict(progress.numbers)
-        if "cuts" in found:
-            found.pop("bound", None)
-        elif found:
-            self._known.pop("cuts", None)
-        self._known.update(found)
-        if progress.step:
-            self.monitor.progress.tell_step(progress.step, self._known)
-        else:
-            self.monitor.progress.tell_numbers(self._known)
+        settings = self.settings.certificate
+        return SearchOptions(
+            objective=self.settings.objective,
+            proves=proves,
+            is_relaxation=self.is_relaxed,
+            wants_bound=settings.bound,
+            shortens=settings.shorten,
+        )
 
     def from_answer_itself(self, judge: CertificateJudge, answer: Answer) -> Evidence:
         """What an answer proves by itself: its values and duals are the certificate.
@@ -471,7 +467,11 @@ class AnswerCertifier:
             stored: What was done with the certificate; None where none is wanted.
         """
         settings = self.settings.certificate
-        lines = [*self.claim_words(said, verdict.note), self.pool_note]
+        lines = [
+            *self.claim_words(said, verdict.note),
+            self.why_infeasible(verdict),
+            self.pool_note,
+        ]
         last = verdict.line
         is_settled = said is not None and said.claim.is_final
         if settings.prove and settings.check and clp.library() is None and not is_settled:
@@ -481,6 +481,13 @@ class AnswerCertifier:
         if stored is not None:
             lines.append(stored.line)
         return [line for line in (*lines, verdict.note, last) if line]
+
+    def why_infeasible(self, verdict: Evidence) -> str:
+        """A line with the rows and bounds of a contradiction; "" where none is proved."""
+        whole, accepted = self.whole_program, verdict.certificate
+        if whole is None or accepted is None or verdict.claim != Claim.INFEASIBLE.value:
+            return ""
+        return contradiction_words(accepted, whole, self.program.own_names)
 
     def stored(self, verdict: Evidence) -> StoredCertificate | None:
         """Keeps the accepted certificate, and says what was done; None where none is wanted."""
@@ -580,21 +587,13 @@ class AnswerCertifier:
     def named_place(self, exported: str) -> str:
         """A row or column by its name in the exported text: c and x with the file's number.
 
-        All other names are told as the objective's row.
+        The column and the row of a nonlinear objective's value are told as the objective's row, and
+        what is no name of the text as it is: `a whole number`.
         """
+        if exported in (EPIGRAPH_COLUMN, EPIGRAPH_ROW):
+            return "the objective's row"
         kind, digits = "row" if exported.startswith("c") else "column", exported[1:]
-        return self.named_part(kind, int(digits)) if digits.isdigit() else "the objective's row"
-
-
-def is_point(values: Sequence[str], point: Sequence[Fraction] | None) -> bool:
-    """Whether decimals, one for each variable of the file, are this point exactly.
-
-    False without a point.
-    """
-    if point is None or len(point) != len(values):
-        return False
-    known = {text: Fraction(text) for text in set(values)}
-    return all(known[text] == value for text, value in zip(values, point))
+        return self.named_part(kind, int(digits)) if digits.isdigit() else exported
 
 
 def feasible_words(value: Fraction) -> str:

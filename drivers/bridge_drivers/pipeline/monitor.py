@@ -14,6 +14,7 @@ import shlex
 import time
 from typing import Callable, Iterator, Mapping, NamedTuple, Sequence
 
+from ..exact.search_deadline import SearchProgress
 from ..solvers.run import RunObserver
 from ..system.progress import Progress
 
@@ -148,6 +149,23 @@ class Monitor(RunObserver):
         found = self.read_line(line)
         if found:
             self._known = self._joined(found)
+            self.progress.tell_numbers(self._known)
+
+    def tell_search(self, progress: SearchProgress) -> None:
+        """Tells the progress what a search is at: its step, and what is known so far.
+
+        A bound that is told beside `cuts` is no claim yet: while cuts are made, that of before
+        stays.
+        """
+        found = dict(progress.numbers)
+        if "cuts" in found:
+            found.pop("bound", None)
+        elif found:
+            self._known.pop("cuts", None)
+        self._known.update(found)
+        if progress.step:
+            self.progress.tell_step(progress.step, self._known)
+        else:
             self.progress.tell_numbers(self._known)
 
     def _joined(self, found: Numbers) -> dict[str, float]:

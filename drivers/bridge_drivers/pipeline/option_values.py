@@ -279,15 +279,44 @@ def run_settings(solver: str, values: Mapping[str, Any]) -> RunSettings:
         WrongOption: check=0 stands beside prove=1 or strict=1.
     """
     get = values.get
+    wanted = get("wantsol", PRINTED_VALUES + PRINTED_DUALS)
+    writes_sol = bool(wanted & WRITTEN_SOL)
+    settings = Settings(
+        solver=solver,
+        solver_path=get("solver", ""),
+        bridge=get("bridge", ""),
+        solver_settings=_solver_settings(values),
+        time_limit=min(get("timelim", 0.0), LONGEST_LIMIT),
+        certificate=_certificate_settings(values),
+        objective=get("objno", 1) - 1,
+        round_integers=bool(get("round", True)),
+        shortest_numbers=get("shortest"),
+        mps_form=get("format", ""),
+        start=get("start", ""),
+        keep_folder=get("keep", ""),
+        makes_sol=writes_sol,
+        certifies_sol=bool(get("strict")),
+        refuses_unclear=bool(get("failexit")),
+        shows_faults=get("outlev", 0) >= 2,
+    )
+    outputs = OutputSettings(writes_sol, get("solution", ""), bool(get("overwrite")))
+    has_values, has_duals = bool(wanted & PRINTED_VALUES), bool(wanted & PRINTED_DUALS)
+    return RunSettings(settings, outputs, has_values, has_duals, bool(get("only")))
+
+
+def _certificate_settings(values: Mapping[str, Any]) -> CertificateSettings:
+    """What is asked of the search for a certificate, by checked values of options.
+
+    Raises:
+        WrongOption: check=0 stands beside prove=1 or strict=1.
+    """
+    get = values.get
     strict = bool(get("strict"))
     proves = bool(get("prove")) or strict
     check = bool(get("check", True))
     if proves and not check:
         raise WrongOption("check=0 proves nothing: it does not go with prove=1 or strict=1")
-    wanted = get("wantsol", PRINTED_VALUES + PRINTED_DUALS)
-    writes_sol = bool(wanted & WRITTEN_SOL)
-    overwrite = bool(get("overwrite"))
-    certificate = CertificateSettings(
+    return CertificateSettings(
         check=check,
         prove=proves,
         strict=strict,
@@ -296,28 +325,8 @@ def run_settings(solver: str, values: Mapping[str, Any]) -> RunSettings:
         processes=get("jobs", 0),
         cluster=get("cluster", ""),
         path=get("certificate", ""),
-        overwrite=overwrite,
+        overwrite=bool(get("overwrite")),
     )
-    settings = Settings(
-        solver=solver,
-        solver_path=get("solver", ""),
-        bridge=get("bridge", ""),
-        solver_settings=_solver_settings(values),
-        time_limit=min(get("timelim", 0.0), LONGEST_LIMIT),
-        certificate=certificate,
-        objective=get("objno", 1) - 1,
-        round_integers=bool(get("round", True)),
-        shortest_numbers=get("shortest"),
-        mps_form=get("format", ""),
-        start=get("start", ""),
-        keep_folder=get("keep", ""),
-        makes_sol=writes_sol,
-        refuses_unclear=bool(get("failexit")),
-        shows_faults=get("outlev", 0) >= 2,
-    )
-    outputs = OutputSettings(writes_sol, get("solution", ""), overwrite)
-    has_values, has_duals = bool(wanted & PRINTED_VALUES), bool(wanted & PRINTED_DUALS)
-    return RunSettings(settings, outputs, has_values, has_duals, bool(get("only")))
 
 
 def _solver_settings(values: Mapping[str, Any]) -> SolverSettings:

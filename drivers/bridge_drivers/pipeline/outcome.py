@@ -238,8 +238,10 @@ def _shortfall_of_answer(found: Findings) -> str:
     beside an exact optimum that is known, or by doubles. Of a relaxation a bound that is met will
     do, since no certificate holds a point of it.
     """
-    if found.is_contradicted or not found.is_continuous:
+    if found.is_contradicted:
         return "no exact point has its whole values"
+    if not found.is_continuous:
+        return NO_EXACT_POINT
     if found.violation is Violation.LITTLE:
         return "no exact point is near it"
     is_met = found.claim == "bound" and found.is_bound_met

@@ -113,15 +113,18 @@ def write_outputs(
 
 
 def sol_data(outcome: Outcome, source: Source, objective: int) -> bytes:
-    """The bytes of a .sol with the whole message.
+    """The bytes of a .sol.
 
-    It is that of `bridge return`, else one with the code alone.
+    It is that of `bridge certified` as it stands; else that of `bridge return` with the whole
+    message; else one with the message and the code alone.
 
     Args:
         outcome: What is told.
         source: An .nl file.
         objective: The number of the objective, from 0.
     """
+    if outcome.sol is not None and outcome.is_certified:
+        return outcome.sol
     lines = [*map(set_apart, outcome.lines[:-1]), outcome.lines[-1]]
     if outcome.sol is not None:
         return with_message(outcome.sol, lines)

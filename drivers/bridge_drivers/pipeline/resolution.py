@@ -107,6 +107,8 @@ def resolve(answer: Answer, verdict: Evidence, facts: RunFacts = RunFacts()) -> 
     ruling = decide(findings_of(answer, verdict, facts, proved))
     code, shortfall = ruling.code, ruling.shortfall
     if ruling.source is PointSource.PROVED and proved is not None:
+        if is_exact_and_no_worse(answer, verdict, facts):
+            return Resolution(code, answer.with_code(code), None, "", shortfall)
         return _at_proved_point(answer, verdict, proved, ruling)
     if ruling.source is PointSource.ANSWER:
         text = NOT_STRICT if shortfall == NOT_STRICT else None
@@ -153,6 +155,30 @@ def findings_of(
         is_proving=facts.is_proving,
         is_strict=facts.is_strict,
     )
+
+
+def is_exact_and_no_worse(answer: Answer, verdict: Evidence, facts: RunFacts) -> bool:
+    """Whether an answer in fractions stands beside a proved point that is not the optimum.
+
+    That is where its own objective is no worse than the point's, and not beyond the proved bound,
+    and it misses nothing: its numbers are too wide for a certificate, and a point in few digits is
+    no correction of it.
+
+    Args:
+        answer: The solver's own.
+        verdict: With a proved point.
+        facts: What the answer misses.
+    """
+    said = statement_of(verdict.line)
+    values, own = answer.found.values, answer.found.objective
+    if said is None or said.claim is not Claim.WITHIN or said.value is None or said.bound is None:
+        return False
+    if not isinstance(own, Fraction) or not all(isinstance(v, Fraction) for v in values or [0.0]):
+        return False
+    if violation_of(answer, facts.residual) is not Violation.NOTHING:
+        return False
+    low, high = sorted((said.bound, said.value))
+    return low <= own <= high
 
 
 def _has_other_objective(answer: Answer, proved: ProvedPoint | None) -> bool:

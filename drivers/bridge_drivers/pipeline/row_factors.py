@@ -74,13 +74,14 @@ def has_division(nl: str) -> bool:
     return False
 
 
-def whole_form(bridge: Bridge, nl: str, program: LinearProgram) -> WholeForm:
+def whole_form(bridge: Bridge, nl: str, program: LinearProgram, objective: int = 0) -> WholeForm:
     """A file's program in whole numbers, for the search.
 
     Args:
         bridge: The proved program.
         nl: The path of the file as the proved program reads it.
         program: What was exported of it, or an MPS file's own program, which has no factors.
+        objective: The number of the objective that was exported, from 0.
 
     Raises:
         UnsupportedModel: The search does not take it.
@@ -89,7 +90,7 @@ def whole_form(bridge: Bridge, nl: str, program: LinearProgram) -> WholeForm:
     names = [name for name in program.names.rows if name != EPIGRAPH_ROW]
     if not program.is_exported:
         return WholeForm(IntegerProgram.of(program, {}, len(names)), {})
-    factors = whole_factors(factors_of(bridge, nl, names))
+    factors = whole_factors(factors_of(bridge, nl, names, objective))
     return WholeForm(IntegerProgram.of(program, factors, read_header(nl).constraints), factors)
 
 

@@ -20,7 +20,7 @@ class CertificateSettings:
         check: The proved program is asked what is true of the answer.
         prove: A certificate of the optimum is searched for, by long searches too.
         strict: What is not proved optimal, infeasible or unbounded has code 100. Whoever sets it
-            sets `prove`, too.
+            sets `prove` and `Settings.certifies_sol`, too.
         bound: Without `prove`, a bound of an integer program is looked for all the same.
         shorten: A shorter certificate is looked for in the time that is left.
         processes: That search; 0 for as many as there are processors, 1 for this process alone.
@@ -61,6 +61,8 @@ class Settings:
             "" for the guess that the model has itself.
         keep_folder: Where the files in between are kept; "" for nowhere.
         makes_sol: The values are passed on as a .sol, which messages then name.
+        certifies_sol: That .sol is the text that the proved program writes of an accepted
+            certificate, byte for byte; where there is none it has no values.
         refuses_unclear: That a solver says "infeasible or unbounded" is no answer.
         shows_faults: An exception that is a fault of this package is raised as it is.
     """
@@ -78,6 +80,7 @@ class Settings:
     start: Start = ""
     keep_folder: str = ""
     makes_sol: bool = False
+    certifies_sol: bool = False
     refuses_unclear: bool = False
     shows_faults: bool = False
 

@@ -16,8 +16,9 @@ from ..system.deadline import Deadline
 from ..system.errors import DeadlineExceeded, NotFound, NotInstalled, NotStarted, ProgramFailed
 from ..system.processes import OutputLimits, run
 from .calls import Command, Reply, is_utf8
+from .certified import CertifiedSol, read_certified
 from .refusal import Refusal
-from .verdict import Verdict, read_check
+from .verdict import NoVerdict, Verdict, read_check
 
 PACKAGE = os.path.dirname(os.path.dirname(os.path.abspath(__file__)))
 DRIVERS = os.path.dirname(PACKAGE)
@@ -74,7 +75,8 @@ _JUDGES = {
 def is_proved_program(path: str) -> bool:
     """Whether a program of the name `bridge` is the proved one: that answers no words with 3.
 
-    Another program has the name, too: that of iproute2.
+    Another program has the name, too: that of iproute2. `find_program` asks it of what it finds on
+    the PATH, each of which has LONGEST_TRIAL seconds.
     """
     try:
         ended = run([path], Deadline(LONGEST_TRIAL))
@@ -84,7 +86,7 @@ def is_proved_program(path: str) -> bool:
 
 
 def find_program(named: str = "", locations: Sequence[str] = LOCATIONS) -> List[str]:
-    """The words that start the proved program.
+    """The words that start the proved program; each run and each call of `nl-bridge` asks for them.
 
     Args:
         named: By an option; then the variable BRIDGE is not looked at.
@@ -117,7 +119,10 @@ def _programs_on_path(name: str) -> List[str]:
 
 
 def sha256_of_file(path: Optional[str]) -> Optional[str]:
-    """The SHA-256 of a plain file; None where there is none that can be read."""
+    """The SHA-256 of a plain file in hexadecimal; None where there is none that can be read.
+
+    For the sums of a report, of what is no `Source`: the program, and a certificate that was written.
+    """
     digest = hashlib.sha256()
     if not os.path.isfile(path or ""):  # a device may have no end
         return None
@@ -152,11 +157,13 @@ def build_facts(program: str) -> Mapping[str, str]:
 
 
 def _note_nothing(argv: Sequence[str]) -> None:
-    pass
+    """Takes the words of a call where nobody wants to know them: the default of `Bridge.note`."""
 
 
 class Bridge:
     """Calls of the proved program in one run.
+
+    `pipeline.solve.SolveRun` makes one for a run, and `api.opened_bridge` for each other call.
 
     Attributes:
         argv: The words that start it.
@@ -170,6 +177,12 @@ class Bridge:
     def __init__(
         self, argv: Sequence[str], note: Callable[[Sequence[str]], None] = _note_nothing
     ) -> None:
+        """Of the words that start the program, as `find_program` finds them; nothing is started.
+
+        Args:
+            argv: These words.
+            note: Is told the words of each call before it is made.
+        """
         self.argv = list(argv)
         self.note = note
         self.file_names: Dict[str, str] = {}
@@ -193,7 +206,8 @@ class Bridge:
         Raises:
             NotStarted: The program cannot be run.
             DeadlineExceeded: It was ended at the deadline.
-            ProgramFailed: It wrote more than the limits, and was ended.
+            ProgramFailed: It wrote more than the limits, and was ended; of a verdict it is a
+                NoVerdict.
         """
         argv = self.argv + [self._reachable(word) for word in words]
         self.note(argv)
@@ -203,9 +217,13 @@ class Bridge:
             raise NotStarted(argv[0], str(fault.strerror)) from None
         if ended.is_late:
             raise DeadlineExceeded(words[0])
+        told = ended.errors.decode("utf-8", "replace").strip()
+        reply = Reply(ended.status, ended.output, told)
+        if ended.dropped and limits is VERDICT_LIMITS:
+            raise NoVerdict(reply)
         if ended.dropped:
             raise ProgramFailed(f"`bridge {words[0]}` writes more than is read")
-        return Reply(ended.status, ended.output, ended.errors.decode("utf-8", "replace").strip())
+        return reply
 
     def _reachable(self, word: str) -> str:
         """The program takes words of UTF-8 alone: a path of other bytes is given as a link to it."""
@@ -220,7 +238,12 @@ class Bridge:
         return link
 
     def refusal(self, words: Sequence[str], reply: Reply) -> Refusal:
-        """The error of a call that ended without what was asked for."""
+        """The error of a call that ended without what was asked for; whoever made the call raises it.
+
+        Args:
+            words: Those of the call; the first is the command.
+            reply: How it ended.
+        """
         return Refusal(words[0], reply, words, self.file_names)
 
     def text(self, command: Command, *files: str, deadline: Optional[Deadline] = None) -> bytes:
@@ -241,13 +264,28 @@ class Bridge:
         return reply.out
 
     def export(self, model: str, objective: int = 0) -> bytes:
-        """The MPS text of an .nl file, with one of its objectives, from 0."""
+        """The MPS text of an .nl file, which solvers read and `LinearProgram.of` takes.
+
+        Args:
+            model: The path of an .nl file.
+            objective: The number of one of its objectives, from 0.
+
+        Raises:
+            Refusal: The file is refused, or it has no such objective.
+        """
         return self.text(Command.EXPORT, model, *([str(objective)] if objective else []))
 
     def return_(self, model: str, answer: str) -> bytes:
-        """The .sol text of a solver's answer, which stands in a file, to what `export` wrote.
+        """The .sol text of a solver's answer to what `export` wrote.
 
         No deadline ends it: without it there is no answer to pass on.
+
+        Args:
+            model: The path of the .nl file.
+            answer: The path of a file with the answer, as `pipeline.answer` writes it.
+
+        Raises:
+            Refusal: The model or the answer is refused.
         """
         return self.text(Command.RETURN, model, answer, deadline=Deadline())
 
@@ -266,6 +304,25 @@ class Bridge:
         """
         command = self.forms.get(model, ModelForm.NL).judge
         return Verdict(self._judged(command, model, certificate, deadline))
+
+    def certified(
+        self, model: str, certificate: str, deadline: Optional[Deadline] = None
+    ) -> CertifiedSol:
+        """The .sol text of the claim of a certificate that holds over an .nl file.
+
+        Its message is the verdict, its values are those of the certificate's point.
+
+        Args:
+            model: The path of the .nl file.
+            certificate: The path of a file.
+            deadline: As of `call`.
+
+        Raises:
+            Refusal: A file is refused, or a value of the point has no decimal.
+            NoVerdict: The certificate does not hold, or what is answered is no such text.
+            DeadlineExceeded: It was ended at the deadline.
+        """
+        return read_certified(self._judged(Command.CERTIFIED, model, certificate, deadline))
 
     def check(self, model: str, sol: str, deadline: Optional[Deadline] = None) -> str:
         """The line on the point and the duals of a .sol file over an .nl file.

@@ -14,6 +14,7 @@ class Command(enum.Enum):
     CHECK = "check"  # one verdict on the point and the duals of a .sol file
     PROVE = "prove"  # one verdict on a proof by branches
     VERIFY = "verify"  # one verdict on a certificate
+    CERTIFIED = "certified"  # the .sol text of a claim whose certificate holds
     VERIFY_MPS = "verify_mps"  # the same over an MPS text in free form
     VERIFY_FIXED = "verify_fixed"  # the same over an MPS text in fixed columns
     NL = "nl"  # an .nl text in its one written form
@@ -33,6 +34,7 @@ READERS_OF_NL: FrozenSet[str] = frozenset(
         Command.CHECK,
         Command.PROVE,
         Command.VERIFY,
+        Command.CERTIFIED,
     )
 )  # words of the commands whose first file is an .nl text
 READERS_OF_MPS: FrozenSet[str] = frozenset(
@@ -47,6 +49,7 @@ READERS_OF_MPS: FrozenSet[str] = frozenset(
 )  # words of the commands whose first file is an MPS text
 FIRST_LINES: Mapping[str, str] = {
     Command.VERIFY.value: "certificate 1",
+    Command.CERTIFIED.value: "certificate 1",
     Command.VERIFY_MPS.value: "certificate 1",
     Command.VERIFY_FIXED.value: "certificate 1",
     Command.PROVE.value: "proof 1",

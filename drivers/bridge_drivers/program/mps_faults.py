@@ -100,18 +100,22 @@ def _about(word: str, text: str, known: Sequence[str] = ()) -> str:
 
 
 def _column_again(line: MpsLine) -> str:
+    """A column whose lines go on behind those of another one: its name is the first word."""
     return _about(line.words[0], "the lines of a column must stand together")
 
 
 def _repeated_row(line: MpsLine) -> str:
+    """A row that is declared twice: its name is the last word."""
     return _about(line.words[-1], "a line before has it")
 
 
 def _bad_marker(line: MpsLine) -> str:
+    """A marker that begins and ends nothing: its kind is the last word."""
     return _about(line.words[-1], "'INTORG' or 'INTEND' is wanted")
 
 
 def _bad_section(line: MpsLine) -> str:
+    """The head of a section: of another kind of model, out of its place, or unknown."""
     word = line.words[0]
     if word.upper() in OTHER_SECTIONS:
         return _about(word, f"{OTHER_SECTIONS[word.upper()]} are not read")
@@ -121,6 +125,7 @@ def _bad_section(line: MpsLine) -> str:
 
 
 def _bad_bound_kind(line: MpsLine) -> str:
+    """The first word of a line of BOUNDS, which is no kind of bound that is read."""
     word = line.words[0]
     if word.upper() in SEMI_CONTINUOUS:
         return _about(word, "semi-continuous columns are not read")
@@ -133,6 +138,7 @@ def _unknown_row(line: MpsLine) -> str:
 
 
 def _unknown_column(line: MpsLine) -> str:
+    """A column of BOUNDS: its name stands last, or in front of the number of the bound."""
     has_number = len(line.words) > 1 and line.words[0].upper() not in BOUNDS_WITHOUT_NUMBER
     return _not_declared([line.words[-2 if has_number else -1]], line.columns)
 

@@ -43,12 +43,14 @@ class MpsRefusal(Refusal):
         words: Sequence[str] = (),
         file_names: Optional[Mapping[str, str]] = None,
     ) -> None:
+        """As of `Refusal`; whoever raises it sets place, name and remark where they are known."""
         super().__init__(command, reply, words, file_names)
         self.place = ""
         self.name = ""
         self.remark = ""
 
     def describe(self) -> str:
+        """As of `Refusal`, with the name behind the place, and the remark at the end."""
         line = super().describe()
         if self.name:
             line = line.replace(f" {self.place}: ", f" {self.place} ({self.name}): ", 1)
@@ -220,6 +222,7 @@ def _in_nl_order(read: MpsColumns) -> List[int]:
     low, high = read.bounds()
 
     def group(column: int) -> int:
+        """Where a column stands: 0 continuous, 1 binary, 2 integer with other bounds."""
         lower, upper = low[column], high[column]
         if not read.is_integer[column]:
             return 0

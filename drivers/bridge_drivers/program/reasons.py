@@ -345,11 +345,19 @@ REASONS: Mapping[str, Tuple[Reason, ...]] = {
             ("too large",),
             more="more nodes, lines of lists or added rows than docs/user/formats.md allows",
         ),
+        Reason(
+            ("value not decimal",),
+            "a value of the certificate's point, such as 1/3, has no decimal, and a .sol file has "
+            "no other numbers",
+            more="the certificate holds",
+            remedy="another point with the same claim; `verify` takes it as it stands",
+        ),
     ),
 }  # by the kind of text that is refused; of some words the first kind that has them counts
 
 
 def _by_words() -> Dict[str, Reason]:
+    """Each reason by each of its words; of words that stand twice the first kind counts."""
     found: Dict[str, Reason] = {}
     for reasons in REASONS.values():
         for reason in reasons:
@@ -382,6 +390,7 @@ def listed_reasons() -> str:
 
 
 def _paragraph(reason: Reason) -> str:
+    """A reason in lines of LISTED_WIDTH: its words, what they mean, and what helps."""
     text = "; ".join(filter(None, (reason.text, reason.more)))
     if reason.remedy:
         text += f" => {reason.remedy}"

@@ -76,6 +76,14 @@ class Refusal(ProgramFailed):
         words: Sequence[str] = (),
         file_names: Optional[Mapping[str, str]] = None,
     ) -> None:
+        """Of one call of the proved program; its sentence is made when it is asked for.
+
+        Args:
+            command: The word of the command.
+            reply: How the call ended; its status is none that goes with an answer.
+            words: All words of the call; empty where they are not known.
+            file_names: What the user calls files, by the paths among the words.
+        """
         super().__init__(reply.told)
         self.command = command
         self.status = reply.status
@@ -189,11 +197,13 @@ class RefusalText:
         self.line = one_line(self._text())
 
     def _file_name(self) -> str:
+        """What the user calls the file that is refused; "" where the line names none of the call."""
         if self.parsed is None or not 1 <= self.parsed.file <= len(self.files):
             return ""
         return self.shown_files[self.parsed.file - 1]
 
     def _text(self) -> str:
+        """The whole sentence: file, place, expression, reason; the told line where it is no refusal."""
         parsed = self.parsed
         if parsed is None or not self.file_name:
             return self.told + meaning_of(self.told.rpartition(": ")[2])

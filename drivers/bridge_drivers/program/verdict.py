@@ -114,6 +114,7 @@ class Statement(NamedTuple):
         )
 
     def _has_as_good_a_value(self, other: Statement, maximise: bool) -> bool:
+        """Whether a point is claimed wherever the other claims one, with no worse an objective."""
         if other.value is None:
             return True
         if self.value is None:
@@ -121,6 +122,7 @@ class Statement(NamedTuple):
         return self.value >= other.value if maximise else self.value <= other.value
 
     def _has_as_close_a_bound(self, other: Statement, maximise: bool) -> bool:
+        """Whether a bound is claimed wherever the other claims one, and is no further away."""
         if other.bound is None:
             return True
         if self.bound is None:
@@ -136,6 +138,7 @@ class NoVerdict(ProgramFailed):
     """
 
     def __init__(self, reply: Reply) -> None:
+        """Of the reply, of whose text the first SHOWN_BYTES of a line are told."""
         start = reply.out.partition(b"\n")[0][:SHOWN_BYTES]
         more = " and more" if len(reply.out) > len(start) + 1 else ""
         shown = start.decode("utf-8", "replace")
@@ -143,6 +146,7 @@ class NoVerdict(ProgramFailed):
         self.reply = reply
 
     def describe(self) -> str:
+        """That the program is not the proved one, and what it said."""
         return f"the program `bridge` is not the proved one: {self.reason}"
 
 
@@ -162,6 +166,7 @@ class Verdict:
     statement: Optional[Statement] = field(init=False)
 
     def __post_init__(self) -> None:
+        """Reads the reply once; there is no other way to a statement."""
         object.__setattr__(self, "statement", _read_reply(self.reply))
 
     @property

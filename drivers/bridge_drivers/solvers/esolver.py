@@ -39,6 +39,7 @@ STATUSES = (
     ToldStatus("MEMORY_LIMIT_REACHED", SolverStatus.LIMIT, "the memory limit"),
     ToldStatus("USER_INTERRUPT", SolverStatus.LIMIT, "an interrupt"),
 )
+LIMITS = tuple(one for one in STATUSES if one.status is SolverStatus.LIMIT)
 VALUES = "VARS"
 REDUCED_COSTS = "REDUCED COST"
 DUALS = "PI"
@@ -74,8 +75,7 @@ class Esolver(Solver):
     def solve(self, run: SolverRun) -> SolverAnswer:
         """Calls esolver, and reads its answer by the status in the file's first line.
 
-        Where it wrote no file, any word of STATUSES in its log counts as the time limit. A run that
-        had a time limit, or was killed, and says nothing clear counts as stopped at it. Raises as
+        Where it wrote no file, a limit that its log tells is what stopped it. A run that had a time limit, or was killed, and says nothing clear counts as stopped at it. Raises as
         `Solver.solve`.
         """
         solution = run.path("answer.sol")
@@ -85,8 +85,9 @@ class Esolver(Solver):
         finished = run.start([run.executable, *words])
         lines = read_lines(solution)
         if lines is None:
-            if status_in_log(STATUSES, finished.log):
-                return limit_answer(TIME_LIMIT)
+            limit = status_in_log(LIMITS, finished.log)
+            if limit is not None:
+                return limit_answer(limit.text)
             return answer_without_file(finished, "error")
         head = "".join(lines[:1])  # `status OPTIMAL`
         told = status_of(STATUSES, "".join(head.split()[-1:]))

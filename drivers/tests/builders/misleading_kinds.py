@@ -404,7 +404,7 @@ def chains(rng: random.Random) -> Parts:
     columns += [("C", None, None) for _ in range(n - 2)]
     low, high = at - rng.choice([F(1), F(0)]), at + rng.randint(0, 2)
     columns.append(("C", decimal(low), decimal(high)))
-    rows = [(f"-{step}", f"-{step}", {k + 1: 1, k: f"-{up}"}) for k in range(n - 1)]
+    rows: List[Row] = [(f"-{step}", f"-{step}", {k + 1: 1, k: f"-{up}"}) for k in range(n - 1)]
     reach = width * factor ** (n - 1)  # of the last column from `at`
     least, most = max(low, at - reach), min(high, at + reach)
     way = sense(rng)

@@ -25,7 +25,7 @@ class Completion(NamedTuple):
 
 
 # In a folder with these files.
-FILES = ("a.nl", "a.certificate", "b.txt", "c.mps", "c.mps.gz", "c.gz")
+FILES = ("a.nl", "a.certificate", "b.txt", "c.mps", "c.mps.gz", "c.gz", "d e.nl", "d *.nl")
 BASH = [
     Completion("bridge-cbc knap pro", ["prove="]),
     Completion("bridge-cbc knap prove =", ["0", "1"]),
@@ -36,6 +36,9 @@ BASH = [
     Completion("bridge-cbc k -A", ["-AMPL"]),
     Completion("bridge-cbc a", ["a.nl"]),
     Completion("bridge-cbc c", ["c.mps", "c.mps.gz"]),
+    Completion("bridge-cbc d", ["d *.nl", "d e.nl"]),
+    Completion("nl-bridge verify d", ["d *.nl", "d e.nl"]),
+    Completion("bridge-cbc a solution = d", ["d *.nl", "d e.nl"]),
     Completion("bridge-cbc c.mps format = f", ["fixed", "free"]),
     Completion("bridge-cbc a certificate = a.c", ["a.certificate"]),
     Completion("nl-bridge verify a.nl a", ["a.certificate", "a.nl"]),
@@ -98,7 +101,7 @@ def test_bash(workspace: Workspace, case: Completion) -> None:
         folder=workspace.folder, words=" ".join(f"'{word}'" for word in words), count=len(words)
     )
     ended = workspace.run_process(["bash", "-c", code])
-    assert sorted(ended.out.split()) == list(case.offered)
+    assert sorted(filter(None, ended.out.split("\n"))) == list(case.offered)
     assert ended.err == ""
 
 

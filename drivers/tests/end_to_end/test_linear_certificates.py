@@ -6,7 +6,7 @@ import random
 import re
 from fractions import Fraction
 from pathlib import Path
-from typing import Iterator
+from typing import Callable, Iterator
 
 import pytest
 
@@ -16,6 +16,7 @@ from bridge_drivers.exact.clp import LpStatus
 from bridge_drivers.exact.dual_bound import is_optimal_in_doubles
 from bridge_drivers.exact.evidence import AnswerByPlace, AnswerClaim, Evidence
 from bridge_drivers.exact.relaxation import relaxation
+from bridge_drivers.exact.search_deadline import SearchDeadline
 from bridge_drivers.exact.short_points import (
     NEAR_OF_DOUBLES,
     ShortPoint,
@@ -23,13 +24,17 @@ from bridge_drivers.exact.short_points import (
     short_point,
 )
 from bridge_drivers.model.integer_form import IntegerProgram
+from bridge_drivers.model.linear_program import LinearProgram
+from bridge_drivers.pipeline.exact_optimum import ExactOptimum
+from bridge_drivers.program.bridge import Bridge
 from bridge_drivers.system.deadline import Deadline
 from builders.families import family_model, uneven
 from builders.misleading import Misleading
 from builders.misleading_kinds import models
-from builders.nl_text import least, nl_text, real, row
+from builders.nl_text import Objective, least, most, nl_text, real, row
 from builders.small_models import MODELS
 from running.certifying import CertifiedModel
+from running.places import program
 
 pytestmark = pytest.mark.needs("program", "clp_library")
 TOO_WIDE = (
@@ -170,6 +175,28 @@ def test_what_is_true_without_an_answer(tmp_path: Path, name: str, line: str, pr
     """As where a solver stopped without a point."""
     work = CertifiedModel(tmp_path, MODELS[name].text, proves=proves)
     assert work.certify(AnswerClaim.UNKNOWN).line == line
+
+
+@pytest.mark.needs("esolver")
+@pytest.mark.parametrize("sense", [least, most])
+def test_the_exact_optimum_by_another_program(
+    tmp_path: Path, sense: Callable[..., Objective]
+) -> None:
+    """QSopt_ex answers by the file's numbers, in the objective's own sense; so in no time nothing."""
+    text = nl_text(
+        [real(0, 9), real(0, 7)],
+        [row(4, None, 3, 2), row(None, "1.25", 1, "-1.5")],
+        [sense(2, 3)],
+    )
+    (tmp_path / "model.nl").write_bytes(text)
+    given = LinearProgram.of(Bridge(list(program())).export(str(tmp_path / "model.nl")))
+    ask = ExactOptimum(given, {}, SearchDeadline())
+    found = ask(Deadline(30.0))
+    assert found is not None
+    value = 2 * found.point[0] + 3 * found.point[1]
+    assert value == (Fraction(71, 26) if sense is least else 39)
+    assert all(isinstance(dual, Fraction) for dual in found.duals.values())
+    assert ask(Deadline(0.0)) is None
 
 
 def misleading(count: int) -> Iterator[Misleading]:

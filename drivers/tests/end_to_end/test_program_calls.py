@@ -58,6 +58,14 @@ def test_an_integer_program(workspace: Workspace, words: List[str]) -> None:
 
 
 @pytest.mark.needs("program", "cbc", "clp")
+def test_a_certified_sol(workspace: Workspace) -> None:
+    """With strict=1 the proved program writes it from the certificate; nothing is returned."""
+    workspace.copy_files(EXAMPLES)
+    calls = calls_of(workspace, "bridge-cbc", "knap", "-AMPL", "strict=1")
+    assert calls == ["export", "verify", "certified"]
+
+
+@pytest.mark.needs("program", "cbc", "clp")
 def test_without_a_sol(workspace: Workspace) -> None:
     workspace.copy_files(EXAMPLES)
     calls = calls_of(workspace, "bridge-certify", "knap", "certificate=new.certificate")

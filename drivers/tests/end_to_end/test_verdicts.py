@@ -38,7 +38,7 @@ OPEN_END = nl_text([whole()] * 3, [row(None, 18, 10, 7, -12)], [most(10, 7, 12)]
     ("text", "without", "code", "verdict"),
     [
         (MODELS["knap"].text, ["rays"], 0, "optimal 17"),
-        (OPEN_END, ["rays"], 100, "feasible 17"),
+        (OPEN_END, ["rays", "fractions"], 100, "feasible 17"),
         (OPEN_END, [], 300, "unbounded"),
     ],
     ids=["bounded", "no-time", "ray"],
@@ -193,7 +193,7 @@ FAILURES = [
         ["objno=0"],
         502,
         3,
-        "objno=0: a whole number from 1 on is wanted",
+        "objno=0: a whole number from 1 to 4294967296 is wanted",
     ),
 ]
 

@@ -255,7 +255,8 @@ class Case:
 
     def driver(self, model: str) -> str:
         """A command of a driver, by hand or as a modelling system calls it."""
-        words = [model, f"timelim={SECONDS}", *self.chance.choice(([], ["-AMPL"], ["wantsol=6"]))]
+        choices: Sequence[List[str]] = ([], ["-AMPL"], ["wantsol=6"])
+        words = [model, f"timelim={SECONDS}", *self.chance.choice(choices)]
         console = Console(io.StringIO(), io.StringIO())
         DriverCommand("cbc", console).main(words)
         return self._printed_fault(console)
@@ -275,7 +276,8 @@ class Case:
     def _printed_fault(self, console: Console) -> str:
         """What was printed of a fault, or more than one line that reads as a verdict."""
         parts = vars(console)
-        printed, errors = parts["_output"].getvalue(), parts["_errors"].getvalue()
+        printed = str(parts["_output"].getvalue())
+        errors = str(parts["_errors"].getvalue())
         for line in (printed + errors).split("\n"):
             if FAULT_WORDS in line or line.startswith("Traceback"):
                 return line

@@ -164,6 +164,12 @@ def packed(chance: random.Random, text: bytes) -> bytes:
 
 def names(chance: random.Random, count: int) -> bytes:
     """A list of names, of which some are the same, empty, or not to be seen."""
-    choices: List[bytes] = [b"", b"a", b"a", b"x1", *(b"optimal", b"not proved: x", b"unbounded") * 5]
+    choices: List[bytes] = [
+        b"",
+        b"a",
+        b"a",
+        b"x1",
+        *(b"optimal", b"not proved: x", b"unbounded") * 5,
+    ]
     choices += [*PIECES, *NUMBERS]
     return b"\n".join(chance.choice(choices) for _ in range(chance.randrange(count + 3)))

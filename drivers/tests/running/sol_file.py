@@ -64,7 +64,12 @@ class SolFile:
         return self.message[-1]
 
     def has_allowed_code(self) -> bool:
-        """Whether its code may stand above its last line, where that is a verdict."""
+        """Whether its code may stand above its last line, where that is a verdict.
+
+        With strict=1 a .sol without values may have 100 above each verdict, and says why.
+        """
+        if any(line.startswith("the .sol has no values: ") for line in self.message):
+            return self.code == 100 and not self.values
         if not VERDICT_LINE.match(self.last_line):
             return True
         return self.code in codes_by_verdict()[self.last_line.split()[0]]

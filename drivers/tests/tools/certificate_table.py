@@ -4,6 +4,8 @@
     certificate_table.py models FOLDER          writes FOLDER/NAME.nl, of two collections
     certificate_table.py families FOLDER [MOST] the same of families by size, MOST nonzeros (100000)
     certificate_table.py seeded FOLDER SEED     the same of families by a seed
+    certificate_table.py search FOLDER SEED     the same of those that the search is measured by: jobs on
+                                                one machine with a big M, and families by size and a seed
     certificate_table.py [-jN] SECONDS FOLDER FILE ..   certificates of .nl or MPS files in FOLDER,
                                                 N models at once (1)
     certificate_table.py readme TABLE ..        the tables of drivers/TABLES.md of such lines
@@ -42,6 +44,7 @@ TESTS = Path(__file__).resolve().parent.parent
 sys.path.insert(0, str(TESTS))
 
 from builders.families import family_model, seeded_models  # noqa: E402
+from builders.scheduling import order_models  # noqa: E402
 from running.places import BIN, program  # noqa: E402
 
 COLLECTIONS = (
@@ -95,6 +98,17 @@ OTHER_FAMILIES: Mapping[str, Sequence[int]] = {
     "frobenius": (5, 8),
     "split": (3, 4),
 }
+SEARCHED_FAMILIES: Mapping[str, int] = {
+    "gap": 8,
+    "color": 20,
+    "lotsize": 14,
+    "tspmtz": 22,
+    "cfl": 28,
+}
+SEARCHED_SEEDS = (
+    *("gap-4-20", "knap-100", "mknap-30", "sched-8", "col-12-6"),
+    *("ufl-8-20", "cov-60-120", "fix-5-8", "job-5-4", "cut-5"),
+)
 LONG_NUMBER = 16  # characters from which a number is told as a double
 MOST_SHOWN = 8  # proved models in the README's table
 
@@ -157,6 +171,18 @@ def write_seeded(words: Sequence[str]) -> None:
     target = _made_folder(words[0])
     for name, text in seeded_models(words[1]).items():
         (target / f"{name}.nl").write_bytes(text)
+
+
+def write_searched(words: Sequence[str]) -> None:
+    """Models that show what the search reaches, and at which price."""
+    target = _made_folder(words[0])
+    for name, model in order_models(words[1]):
+        (target / f"{name}.nl").write_bytes(model.text)
+    for name, size in SEARCHED_FAMILIES.items():
+        (target / f"{name}-{size}.nl").write_bytes(family_model(name, size))
+    for name, text in seeded_models(words[1]).items():
+        if name[: -len(words[1])] in SEARCHED_SEEDS:
+            (target / f"{name}.nl").write_bytes(text)
 
 
 def _made_folder(path: str) -> Path:
@@ -325,6 +351,7 @@ COMMANDS: Mapping[str, Callable[[Sequence[str]], None]] = {
     "models": write_collections,
     "families": write_families,
     "seeded": write_seeded,
+    "search": write_searched,
     "readme": print_readme,
     "sizes": print_sizes,
     "seeds": print_seeds,

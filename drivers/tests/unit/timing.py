@@ -3,7 +3,7 @@
 from __future__ import annotations
 
 import time
-from typing import Callable
+from typing import AnyStr, Callable
 
 GROWTH = 8.0  # for four times as much: 4 is linear, 16 is quadratic
 NOTICED = 0.02  # seconds: less says nothing
@@ -11,7 +11,7 @@ ATTEMPTS = 8
 
 
 def assert_linear(
-    made: Callable[[int], bytes], read: Callable[[bytes], object], count: int
+    made: Callable[[int], AnyStr], read: Callable[[AnyStr], object], count: int
 ) -> None:
     """Compares `count` pieces and four times as many, by processor time.
 
@@ -26,7 +26,7 @@ def assert_linear(
     raise AssertionError(f"{short:.4f} s, four times as much {long:.4f} s")
 
 
-def _seconds(read: Callable[[bytes], object], text: bytes) -> float:
+def _seconds(read: Callable[[AnyStr], object], text: AnyStr) -> float:
     began = time.process_time()
     read(text)
     return time.process_time() - began

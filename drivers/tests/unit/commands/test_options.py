@@ -84,7 +84,7 @@ def test_a_value_out_of_its_range(word: str) -> None:
 
 
 def test_the_values_of_an_option_in_words() -> None:
-    assert Option("x", 0, COUNT, "").values() == "(a whole number from 0 on; 0)"
+    assert Option("x", 0, COUNT, "").values() == "(a whole number from 0 to 1024; 0)"
     known = values().known
     assert known["outlev"].values() == "(0, 1 or 2; 0)"
     assert known["format"].values() == "(free or fixed)"
@@ -177,3 +177,33 @@ def test_settings_of_the_solver() -> None:
 def test_certify_proves_in_two_minutes() -> None:
     settings = certify_options().run_settings("cbc", writes_sol=False).settings
     assert (settings.certificate.prove, settings.time_limit) == (True, 120.0)
+
+
+EXTREME = [
+    "9" * 5000,
+    "1e400",
+    "-1e400",
+    "nan",
+    "inf",
+    "-1",
+    "1_0",
+    "\u0663",
+    "0x10",
+    "",
+    " 1 ",
+    "1e10",
+]
+
+
+@pytest.mark.parametrize("option", EVERY.values(), ids=map("-".join, EVERY))
+@pytest.mark.parametrize("word", EXTREME)
+def test_extreme_values(option: Option, word: str) -> None:
+    """They are taken, within the option's range, or refused in a line that is not long."""
+    values = OptionValues([option])
+    try:
+        values.take([f"{option.name}={word}", "x"][: 1 if word else 2])
+    except WrongOption as error:
+        assert len(str(error)) < 400
+    else:
+        value = values[option.name]
+        assert isinstance(value, str) or value <= 1e400 and value == value

@@ -23,6 +23,7 @@ from bridge_drivers.exact.search_deadline import SearchDeadline, SearchProgress
 from bridge_drivers.exact.task import CertificationTask, SearchOptions
 from bridge_drivers.exact.work_limit import check_work
 from bridge_drivers.model.integer_form import IntegerProgram
+from bridge_drivers.system.deadline import Deadline
 from bridge_drivers.system.errors import SearchPaused
 from bridge_drivers.system.signals import interrupts_to
 from integer_programs import COINS, COVER, EQUATION, KNAPSACK, KNAPSACKS, LOTS, PIGEONS
@@ -61,7 +62,7 @@ class NoTimeForFractions(Refuter):
     """The time ends whenever the simplex method in fractions is asked."""
 
     def _run_rational_simplex(
-        self, program: IntegerProgram, answer: AnswerByPlace
+        self, program: IntegerProgram, answer: AnswerByPlace, limit: Deadline = Deadline()
     ) -> SimplexResult:
         raise SearchPaused("time")
 
@@ -256,8 +257,8 @@ def test_an_interrupt_from_the_terminal() -> None:
     with mock.patch.object(BranchAndBound, "check_limits", interrupted):
         with interrupts_to(deadline.interrupt):
             found = certify(
-                EQUATION,
-                Judge(EQUATION),
+                KNAPSACKS,
+                Judge(KNAPSACKS),
                 claim=AnswerClaim.INFEASIBLE,
                 deadline=deadline,
                 on_progress=told.append,

@@ -65,7 +65,7 @@ def test_a_direction_gives_room_to_all_that_can_have_it() -> None:
     assert found is not None
     assert set(found.exact_rows) >= {0, 1} and 2 not in found.exact_rows
     assert found.direction[0] > 0 and abs(found.direction[0] + found.direction[1]) < 1e-9
-    assert found.fixed == {2: 0, 3: 0}
+    assert found.fixed == {2: F(0), 3: F(0)}
 
 
 @given(st.integers(-(10**30), 10**30))

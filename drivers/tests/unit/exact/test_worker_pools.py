@@ -5,7 +5,7 @@ from __future__ import annotations
 import sys
 import threading
 from types import SimpleNamespace
-from typing import Any, Callable, Mapping
+from typing import Any, Callable, Dict, Mapping
 
 import pytest
 from bridge_drivers.exact.worker_pools import (
@@ -15,6 +15,7 @@ from bridge_drivers.exact.worker_pools import (
     open_pool,
     worker_version,
 )
+from bridge_drivers.system.deadline import Deadline
 from bridge_drivers.system.version import VERSION
 
 SECONDS = 0.05  # that something has which never answers
@@ -42,7 +43,9 @@ def false_cluster(monkeypatch: pytest.MonkeyPatch, **calls: Callable[..., Any]) 
             calls["connect"](address)
         return SimpleNamespace(**{"close": lambda: None, **calls})
 
-    monkeypatch.setitem(sys.modules, "distributed", SimpleNamespace(Client=client))  # type: ignore[arg-type]
+    modules: Dict[str, Any] = {"distributed": SimpleNamespace(Client=client)}
+    for name, module in modules.items():
+        monkeypatch.setitem(sys.modules, name, module)
 
 
 @pytest.mark.parametrize(
@@ -67,7 +70,7 @@ def test_a_cluster_that_cannot_be_had(
     has_no_answer = never in calls.values()
     with pytest.raises(PoolFailed, match=told):
         DaskPool(ADDRESS, SECONDS if has_no_answer else LONG)
-    pool = open_pool(0, ADDRESS, 4 * SECONDS if has_no_answer else 4 * LONG)
+    pool = open_pool(0, ADDRESS, Deadline(4 * SECONDS if has_no_answer else 4 * LONG))
     assert pool is not None and pool.workers == 0 and pool.fault
 
 
@@ -84,7 +87,7 @@ def test_workers_that_are_fit(monkeypatch: pytest.MonkeyPatch) -> None:
 
 
 def test_an_answer_in_time() -> None:
-    assert answered_within(LONG, lambda: 17, "a worker") == 17
+    assert answered_within(Deadline(LONG), lambda: 17, "a worker") == 17
     with pytest.raises(KeyError):
-        answered_within(LONG, lambda: {}[1], "a worker")
+        answered_within(Deadline(LONG), raises(KeyError("x")), "a worker")
     assert worker_version() in ("", VERSION)

@@ -7,6 +7,7 @@ from pathlib import Path
 from typing import List
 
 import pytest
+from bridge_drivers.system.errors import Damaged
 from hypothesis import given
 from hypothesis import strategies as st
 
@@ -55,7 +56,7 @@ def test_another_message() -> None:
 def test_a_failure_of_what_is_no_model(tmp_path: Path, text: bytes) -> None:
     path = tmp_path / "m.nl"
     path.write_bytes(text)
-    with pytest.raises((ValueError, IndexError)):
+    with pytest.raises(Damaged):
         failure_sol(str(path), 501, 0, [""])
 
 

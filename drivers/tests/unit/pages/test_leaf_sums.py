@@ -10,7 +10,7 @@ import pytest
 
 from bridge_drivers.exact.certificate import NodeKind
 from bridge_drivers.model.integer_form import IntegerProgram
-from bridge_drivers.pages.leaf_sums import LeafSums, NodeContext, Part, value_at
+from bridge_drivers.exact.leaf_sums import LeafSums, NodeContext, Part, value_at
 from bridge_drivers.pages.page import MOST_TERMS, Product, leaf_sum, lines_of_sum
 from explained import KNAP, PROGRAMS, certificate, explanation, full_tree
 

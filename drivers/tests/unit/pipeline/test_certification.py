@@ -8,10 +8,10 @@ from typing import List, Optional
 
 import pytest
 
-from bridge_drivers.exact.search_deadline import SearchProgress
 from bridge_drivers.model.linear_program import LinearProgram
 from bridge_drivers.pipeline.answered_run import proved_gap_words, shows_its_claim
-from bridge_drivers.pipeline.certification import AnswerCertifier, feasible_words, is_point
+from bridge_drivers.pipeline.answer_places import is_point
+from bridge_drivers.pipeline.certification import AnswerCertifier, feasible_words
 from bridge_drivers.pipeline.monitor import Monitor
 from bridge_drivers.pipeline.settings import CertificateSettings, Settings
 from bridge_drivers.program.bridge import Bridge
@@ -44,6 +44,20 @@ def certifier(folder: Path, program: str, *, prove: bool = False) -> AnswerCerti
 )
 def test_lines_of_check(line: str, words: str, tmp_path: Path) -> None:
     assert certifier(tmp_path, "diet").check_words(line) == words
+
+
+@pytest.mark.parametrize(
+    "exported, told",
+    [
+        ("c1", "constraint 1"),
+        ("x0", "variable 0"),
+        ("zdef", "the objective's row"),
+        ("z", "the objective's row"),
+        ("a whole number", "a whole number"),
+    ],
+)
+def test_places(exported: str, told: str, tmp_path: Path) -> None:
+    assert certifier(tmp_path, "diet").named_place(exported) == told
 
 
 def test_a_feasible_point() -> None:
@@ -112,17 +126,3 @@ def test_a_gap_in_words(line: str, words: str) -> None:
 )
 def test_whether_duals_show_what_is_proved(told: str, claim: str, shows: bool) -> None:
     assert shows_its_claim(told, claim) == shows
-
-
-def test_progress_of_a_search_stays_on_the_line(tmp_path: Path) -> None:
-    """A step is told beside what is known; a bound of cuts that are still made is no claim."""
-    judge = certifier(tmp_path, "knap")
-    progress = judge.monitor.progress
-    judge._tell(SearchProgress("", {"cuts": 3.0, "bound": 25.0}))
-    assert progress.detail == "3 cuts"
-    judge._tell(SearchProgress("", {"incumbent": 17.0, "bound": 20.0, "nodes": 5.0}))
-    assert progress.detail == "incumbent 17, bound 20, gap 15 %, 5 nodes"
-    judge._tell(SearchProgress("", {"cuts": 4.0, "bound": 18.0}))
-    assert progress.detail == "incumbent 17, bound 20, gap 15 %, 5 nodes, 4 cuts"
-    judge._tell(SearchProgress("bridge verify"))
-    assert progress.detail == "incumbent 17, bound 20, gap 15 %, 5 nodes, 4 cuts, bridge verify"

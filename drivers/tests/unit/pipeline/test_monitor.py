@@ -6,6 +6,7 @@ from typing import Dict, List
 
 import pytest
 
+from bridge_drivers.exact.search_deadline import SearchProgress
 from bridge_drivers.pipeline.monitor import Monitor, ProgressEvent
 
 
@@ -49,3 +50,17 @@ def test_a_stage_begins_with_nothing_known() -> None:
     monitor.stage_begins("cbc", 60.0)
     monitor.log_line("bound 20")
     assert told[-1].numbers == {"bound": 20.0}
+
+
+def test_progress_of_a_search_stays_on_the_line() -> None:
+    """A step is told beside what is known; a bound of cuts that are still made is no claim."""
+    monitor = Monitor("test")
+    progress = monitor.progress
+    monitor.tell_search(SearchProgress("", {"cuts": 3.0, "bound": 25.0}))
+    assert progress.detail == "3 cuts"
+    monitor.tell_search(SearchProgress("", {"incumbent": 17.0, "bound": 20.0, "nodes": 5.0}))
+    assert progress.detail == "incumbent 17, bound 20, gap 15 %, 5 nodes"
+    monitor.tell_search(SearchProgress("", {"cuts": 4.0, "bound": 18.0}))
+    assert progress.detail == "incumbent 17, bound 20, gap 15 %, 5 nodes, 4 cuts"
+    monitor.tell_search(SearchProgress("bridge verify"))
+    assert progress.detail == "incumbent 17, bound 20, gap 15 %, 5 nodes, 4 cuts, bridge verify"

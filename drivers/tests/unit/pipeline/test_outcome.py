@@ -61,8 +61,8 @@ def findings_of(claim: str) -> Iterator[Findings]:
     kinds = ("", "a better") if claim in POINT_CLAIMS else ("",)
     for said, kind, violation, program in itertools.product(SAID, kinds, Violation, PROGRAMS):
         for values in itertools.product((False, True), repeat=len(flags)):
-            found = Findings(said, claim, kind=kind, violation=violation, **program)
-            yield found._replace(**dict(zip(flags, values)))
+            named: Dict[str, bool] = {**program, **dict(zip(flags, values))}
+            yield Findings(said, claim, kind=kind, violation=violation, **named)
 
 
 def all_findings() -> Iterator[Findings]:
@@ -212,7 +212,11 @@ PROVED, OWN = PointSource.PROVED, PointSource.ANSWER
             Findings(SOLVED, "within", has_other_objective=True),
             Ruling(UNSURE, PROVED, "its digits are not those of an exact point"),
         ),
-        (Findings(SOLVED), Ruling(UNSURE, OWN, "no exact point has its whole values")),
+        (Findings(SOLVED), Ruling(UNSURE, OWN, NO_EXACT_POINT)),
+        (
+            Findings(SOLVED, is_contradicted=True),
+            Ruling(UNSURE, OWN, "no exact point has its whole values"),
+        ),
         (Findings(UNSURE, "within", is_gap=True, is_within_gap=True), Ruling(SOLVED, PROVED)),
         (Findings(UNSURE, "within", is_gap=True), Ruling(UNSURE, PROVED, "the gap is not proved")),
         (Findings(STOPPED, violation=Violation.MUCH), Ruling(LIMIT)),

@@ -166,7 +166,7 @@ CASES = (
         "5",
         "",
         "",
-        "no exact point has its whole values",
+        NO_EXACT_POINT,
     ),
     Case(
         "whole",
@@ -177,7 +177,7 @@ CASES = (
         "5",
         "",
         "",
-        "no exact point has its whole values",
+        NO_EXACT_POINT,
     ),
     Case(
         "whole",
@@ -397,3 +397,18 @@ def test_a_proved_claim_is_never_lost() -> None:
             )
             found = resolve(answer, Evidence(line, None, b"kept"))
             assert (found.code, found.answer.values) == (code, None)
+
+
+@pytest.mark.parametrize("value, passed", [("80/9", "80/9"), ("79/9", "89/10"), ("91/10", "89/10")])
+def test_an_exact_answer_is_not_moved_to_a_point_in_few_digits(value: str, passed: str) -> None:
+    """Unless it is worse than that, or beyond the proved bound, which is 9.05 here."""
+    own = Fraction(value)
+    told = SolverAnswer(S.OPTIMAL, "told", [own], objective=own)
+    answer = Answer(LinearProgram.of(CONTINUOUS), told, Settings())
+    evidence = Evidence("within 181/20 80/9", [Fraction(80, 9)], b"kept", value=Fraction(80, 9))
+    low = Evidence("within 181/20 89/10", [Fraction(89, 10)], b"kept", value=Fraction(89, 10))
+    found = resolve(answer, evidence if passed == "80/9" else low)
+    assert found.answer.found.values == [Fraction(passed)]
+    doubles = SolverAnswer(S.OPTIMAL, "told", [float(own)], objective=float(own))
+    moved = resolve(Answer(LinearProgram.of(CONTINUOUS), doubles, Settings()), low)
+    assert moved.answer.found.values == [Fraction(89, 10)]

@@ -9,9 +9,10 @@ import pytest
 
 from bridge_drivers.model.linear_program import LinearProgram
 from bridge_drivers.pipeline.row_factors import factors_of, has_division, whole_form
-from bridge_drivers.program.bridge import Bridge
+from bridge_drivers.program.bridge import TEXT_LIMITS, Bridge
 from bridge_drivers.program.calls import Reply
 from bridge_drivers.system.deadline import Deadline
+from bridge_drivers.system.processes import OutputLimits
 from bridge_drivers.system.errors import UnsupportedModel
 from timing import assert_linear
 
@@ -29,7 +30,12 @@ class Returning(Bridge):
         self.duals = duals
         self.answers: List[str] = []
 
-    def call(self, *words: str, deadline: Optional[Deadline] = None) -> Reply:
+    def call(
+        self,
+        *words: str,
+        deadline: Optional[Deadline] = None,
+        limits: OutputLimits = TEXT_LIMITS,
+    ) -> Reply:
         self.answers.append(Path(words[2]).read_text())
         counts = [str(len(self.duals))] * 2 + ["1", "1"]
         lines = ["", "Options", "3", "1", "1", "0", *counts, *self.duals, "7", "objno 0 0", ""]
@@ -88,6 +94,12 @@ def test_factors_are_taken_out(dividing: str) -> None:
     p = found.program
     assert (p.m, p.row_upper, p.bound_scale) == (3, [3, None, 0], 1)
     assert (p.rows, p.row_scale) == ([[(0, 1)], [], [(0, 2)]], 2)
+
+
+def test_factors_of_the_objective_that_was_exported(dividing: str) -> None:
+    bridge = Returning(["2", "0", "1"])
+    whole_form(bridge, dividing, LinearProgram.of(EXPORTED), 1)
+    assert bridge.answers == ["answer 1\nobjno 1\nrow c0 1\nrow c2 1\n"]
 
 
 @pytest.mark.parametrize("factor", ["1/2", "-3"])

@@ -12,8 +12,8 @@ from bridge_drivers.program.bridge import TEXT_LIMITS, Bridge
 from bridge_drivers.program.calls import Reply
 from bridge_drivers.program.verdict import statement_of
 from bridge_drivers.system.deadline import Deadline
-from bridge_drivers.system.errors import DeadlineExceeded
 from bridge_drivers.system.processes import OutputLimits
+from bridge_drivers.system.errors import DeadlineExceeded
 
 NEW = b"certificate 1\noptimal 0\npoint 0\nduals 0\n"
 OLDER = b"certificate 1\noptimal 0\npoint 1\n0 1\nduals 0\n"

@@ -8,7 +8,7 @@ from typing import Dict, List, Optional, Sequence
 import pytest
 
 from bridge_drivers.formats.mps import read_mps
-from bridge_drivers.program.bridge import Bridge, ModelForm
+from bridge_drivers.program.bridge import TEXT_LIMITS, Bridge, ModelForm
 from bridge_drivers.program.calls import Reply
 from bridge_drivers.program.mps_forms import (
     MpsText,
@@ -21,6 +21,7 @@ from bridge_drivers.program.mps_forms import (
 )
 from bridge_drivers.program.refusal import Refusal
 from bridge_drivers.system.deadline import Deadline
+from bridge_drivers.system.processes import OutputLimits
 from bridge_drivers.system.errors import FileFault
 
 MODEL = (
@@ -49,7 +50,12 @@ class Answering(Bridge):
         self.replies = replies
         self.calls: List[Sequence[str]] = []
 
-    def call(self, *words: str, deadline: Optional[Deadline] = None) -> Reply:
+    def call(
+        self,
+        *words: str,
+        deadline: Optional[Deadline] = None,
+        limits: OutputLimits = TEXT_LIMITS,
+    ) -> Reply:
         self.calls.append(words)
         return self.replies[words[0]]
 

@@ -118,6 +118,27 @@ def test_no_answer(solver: str, tmp_path: Path) -> None:
     StoredSolver.is_killed = False
 
 
+@pytest.mark.parametrize(
+    "words, told",
+    [
+        ("TIME_LIMIT_REACHED", "stopped at the time limit without a feasible solution"),
+        ("USER_INTERRUPT", "stopped at an interrupt without a feasible solution"),
+        ("INFEASIBLE", ""),
+        ("OPTIMAL", ""),
+    ],
+)
+def test_esolver_without_a_file(words: str, told: str, tmp_path: Path) -> None:
+    """A limit that its log tells is one; another status without a file is no answer."""
+    StoredSolver.stored = StoredRun(logs={"solver.log": ["it begins", f"status {words}"]})
+    run = StoredSolver(program_of("diet"), SolverSettings(), str(tmp_path), "/stored/x")
+    if told:
+        answer = SOLVERS["esolver"].solve(run)
+        assert (answer.status, answer.text) == (SolverStatus.LIMIT, told)
+    else:
+        with pytest.raises(UnclearAnswer):
+            SOLVERS["esolver"].solve(run)
+
+
 def test_lp_solve_says_nothing_of_a_gap(tmp_path: Path) -> None:
     """Where one was asked for, what it calls optimal may be within it."""
     answer = answer_of(tmp_path, "lp_solve", "knap", SolverSettings(mip_gap=0.1))

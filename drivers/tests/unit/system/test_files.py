@@ -9,6 +9,7 @@ import lzma
 import os
 import subprocess
 import sys
+import tempfile
 from pathlib import Path
 from typing import Callable, Iterator
 from unittest import mock
@@ -148,14 +149,15 @@ def test_no_model_is_ever_lost(
 
 @pytest.mark.parametrize("name", ["a\0b", "\ud800"])
 def test_what_is_no_path(name: str) -> None:
-    for act in (lambda: outputs().write(name, NEW), lambda: outputs().remove(name)):
-        with pytest.raises(FileFault, match="it is no path of this system"):
-            act()
+    with pytest.raises(FileFault, match="it is no path of this system"):
+        outputs().write(name, NEW)
+    with pytest.raises(FileFault, match="it is no path of this system"):
+        outputs().remove(name)
 
 
 def test_without_a_folder_for_files_in_between(monkeypatch: pytest.MonkeyPatch) -> None:
     """It is told as a fault of files, whoever asks for one."""
-    monkeypatch.setattr(files.tempfile, "tempdir", "/nonexistent")
+    monkeypatch.setattr(tempfile, "tempdir", "/nonexistent")
     with pytest.raises(FileFault, match="TMPDIR|nonexistent"):
         files.private_folder("x-")
 

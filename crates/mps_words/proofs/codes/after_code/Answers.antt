@@ -9,5 +9,5 @@ overflow_mul-found c = omega (arith, code_fits c.bytes.found 0 c.bytes.passed c.
 pub returns : goal.returns
 returns c =
     let code : c.args.code ≡ bytes_code (take c.bytes.passed c.args.text.now) = omega (arith, c.if-found-code.false, c.bytes.invariant.found) in
-    after_found c.args.text.now c.bytes.passed c.args.code (are_bytes c.args.text.now c.type_inv.text) c.bytes.invariant.few c.bytes.invariant.within code
+    after_found c.args.text.now c.bytes.passed c.args.code (are_bytes c.args.text.now c.type_inv.text) (omega arith) c.bytes.invariant.few c.bytes.invariant.within code
     ∙ ap (λ (rest : List ℕ). name_of c.args.code ++ rest) (sym c.split_at.ensures.back)

@@ -1,10 +1,10 @@
-use Rattle.std.proofs.Common.{refl}
+use Rattle.std.proofs.Common.{arith, refl}
 use Rattle.mps_words.proofs.CodeLemmas.{are_bytes}
-use Rattle.mps_words.proofs.ShortNames.{short_name}
+use Rattle.mps_words.proofs.ShortNames.{head_name}
 use Rattle.mps_words.proofs.codes.first_short.Goals as goal
 
 pub returns : goal.returns
 returns c =
-    short_name c.args.text.now c.split_at.result.1.now c.in-Some.head c.size_before-size.result c.args.end _
+    head_name c.args.text.now c.split_at.result.1.now c.in-Some.head c.size_before-size.result c.args.end _
     (are_bytes c.args.text.now c.type_inv.text) c.in-Some.ensures.long c.in-Some.ensures.value
-    c.if-size-gt-SHORT.false c.if-both-end.false c.split_at.ensures.back refl
+    (omega arith) (omega arith) (omega arith) (omega arith) (omega arith) c.split_at.ensures.back refl

@@ -1,4 +1,4 @@
-use Rattle.std.proofs.Common.{◌≡◌, ◌<◌, ◌*◌, ◌^◌, take}
+use Rattle.std.proofs.Common.{◌≡◌, ◌<◌, ◌^◌, take}
 use Rattle.mps_words.specs.InsideCodes.{bytes_code}
 use Rattle.mps_words.proofs.codes.short_key.Given as goal
 
@@ -6,5 +6,5 @@ use Rattle.mps_words.proofs.codes.short_key.Given as goal
 abbrev pub invariant-bytes : goal.invariant-bytes
 invariant-bytes l = record {
   code : l.code ≡ bytes_code (take l.byte-index l.name);
-  small : l.code < 2 * 256 ^ l.byte-index;
+  small : l.code < 256 ^ l.byte-index;
 }

@@ -22,7 +22,7 @@ returns-in-Some-last-clause-value c =
     let own = last_code c.self.inside.codes _ c.in-Some-last.code (codes_kept _ c.self.inside.codes none c.self.invariant) c.last.ensures c.in-Some-last.is in
     let last : name_of c.in-Some-last.code ≡ last_name c.args.self.now = sym (last_by_code c.self.inside.codes _ c.in-Some-last.code c.last.ensures c.in-Some-last.is) ∙ ap last_name seen in
     ap (λ (n : ℕ). nat_eq n c.in-Some-last.code) c.of.ensures
-    ∙ same_test c.args.name.now c.in-Some-last.code (are_bytes c.args.name.now c.type_inv.name) own.bytes own.own
+    ∙ same_test c.args.name.now c.in-Some-last.code (are_bytes c.args.name.now c.type_inv.name) own.bytes own.own own.above
     ∙ ap (bytes_eq c.args.name.now) last
 
 pub returns-in-Some-last-clause-name : goal.returns-in-Some-last-clause-name

@@ -12,7 +12,7 @@ import enum
 from fractions import Fraction
 from typing import Dict, Iterable, Iterator, List, Mapping, NamedTuple, Optional, Sequence, Tuple
 
-from ..exact.certificate import Certificate, NodeKind
+from .certificate import Certificate, NodeKind
 from ..model.integer_form import IntegerProgram
 
 Bound = Optional[Fraction]  # None: there is none

@@ -1,0 +1,4 @@
+pub mod Decimals
+pub mod Given
+pub mod One
+pub mod Signs

@@ -1,0 +1,3 @@
+pub mod Lagrangian
+pub mod Solution
+pub mod InsideParts
