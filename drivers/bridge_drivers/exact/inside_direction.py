@@ -174,7 +174,14 @@ class _DirectionProgram:
             ]
 
     def read(self, solution: Sequence[float]) -> InsideDirection:
-        """The direction of a solution; what has less than LEAST_ROOM has none."""
+        """The direction that a solution of this linear program means.
+
+        An unknown whose bound gets less than LEAST_ROOM is fixed there, and a tight row that gets
+        less becomes an equation.
+
+        Args:
+            solution: What CLP found, by column of this program.
+        """
         direction = [0.0] * len(self.parts)
         fixed: Dict[int, Fraction] = {}
         for j, parts in enumerate(self.parts):

@@ -245,7 +245,8 @@ class IntegerCertifier:
         whole) and a relaxation whose exact optimum is integer.
 
         Args:
-            violation: As of `_without_exact_point`.
+            violation: By how much the answer misses what integer columns alone decide, as a share
+                of the largest term (`points.integer_residual`).
         """
         if self.task.options.proves or self.is_answer_contradicted or not violation:
             return self.refuter.refute(self.certify_from_point)

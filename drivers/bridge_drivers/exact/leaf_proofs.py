@@ -247,6 +247,9 @@ def common_denominator(values: Iterable[Ratio], most: int) -> Optional[int]:
     """The least common denominator; None as soon as that of some of them is above `most`.
 
     That of many unlike fractions has as many digits as all their denominators together.
+
+    Raises:
+        TimeOver: The time of exact work is over.
     """
     common = 1
     for _, denominator in checked(values):
@@ -260,7 +263,10 @@ def common_denominator(values: Iterable[Ratio], most: int) -> Optional[int]:
 def from_fractions(
     program: IntegerProgram, values: Mapping[int, Fraction], kind: MultiplierKind
 ) -> Multipliers:
-    """The same as `from_ratios`, of fractions by row."""
+    """The multipliers of a kind that have these values by row: `from_ratios` of fractions.
+
+    Zeros, and multipliers that lack the row bound which they need, are left out.
+    """
     ratios = {row: (v.numerator, v.denominator) for row, v in values.items()}
     return from_ratios(program, ratios, kind)
 
@@ -374,6 +380,9 @@ def repaired_bound(
     Returns:
         The multipliers with their bound, which need not be finite. They are the given object where
         nothing was repaired.
+
+    Raises:
+        TimeOver: The time of exact work is over.
     """
     bound = dual_bound(program, multipliers, box)
     if len(bound.unbounded_columns) > MOST_REPAIRED_COLUMNS:

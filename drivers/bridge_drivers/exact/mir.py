@@ -348,9 +348,10 @@ def _leaf_multipliers(
     """The multipliers of one part of a cut's proof.
 
     Args:
-        numerators: By row. Times both scales of the program they fit the cut's coefficients before
-            these are divided.
-        common: The common divisor by which those are divided.
+        numerators: By row. Multiplied by `row_scale` and `bound_scale` of the program, they prove
+            the cut as it is before its coefficients are divided.
+        common: The common divisor of those coefficients, by which they are divided; the multipliers
+            are divided by it, too.
     """
     factor = program.row_scale * program.bound_scale
     nonzero = {row: v * factor for row, v in numerators.items() if v}

@@ -140,7 +140,11 @@ def best_divisor(
 ) -> Optional[Divisor]:
     """The divisor whose cut has the greatest efficacy, in doubles.
 
+    `MIRSeparator` asks for it of each combination that it tries.
+
     Args:
+        substitutions: Of the program at the point that is to be cut off.
+        combination: Multipliers by row, of either sign.
         multiples: Fractions: a divisor is one of these times a coefficient of the combination.
 
     Returns:

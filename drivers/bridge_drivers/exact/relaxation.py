@@ -75,7 +75,10 @@ def phase_one(program: IntegerProgram) -> Clp:
 
 
 def row_unit(program: IntegerProgram, row: int) -> Fraction:
-    """1, or the power of two near the coefficients of a row, in the row's own units, where all of
-    them are small: so large is a row's miss that counts as 1 in phase one."""
+    """By how much a row is missed, in the row's own units, where that counts as 1 in phase one.
+
+    It is 1, but where all coefficients of the row are below `clp.SMALL` a power of two near the
+    greatest of them.
+    """
     greatest = max((abs(a) for _, a in program.rows[row]), default=0) / program.row_scale
     return 1 / Fraction(scaling_power(greatest))

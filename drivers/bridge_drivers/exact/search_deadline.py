@@ -117,17 +117,24 @@ class SearchDeadline(Deadline):
             self._elsewhere += taken
 
     def to_find(self) -> Deadline:
-        """The deadline of exact work and of CLP's solves, until what is known is told: the limit,
-        with KEPT_SECONDS of all left to judge it. Where the limit is in processor time, only the
-        latter counts: of the wall where a limit of that was asked for, else of the processor."""
+        """The deadline of exact work and of CLP's solves, until what is known is told.
+
+        With a limit of the wall it is that limit, or KEPT_SECONDS before all must have ended, which
+        is for the judge, where that is sooner. With one in processor time the limit itself does
+        not count here: it is KEPT_SECONDS before the end of all, as of `to_find_at_last`.
+        """
         left = self.left_of_all() - KEPT_SECONDS
         if not self.of_processor:
             return Deadline(min(self.left(), left))
         return Deadline(left) if self._is_by_wall else self.to_find_at_last()
 
     def to_find_at_last(self) -> Deadline:
-        """The same where the limit is over and what is known may still grow by a bound: KEPT_SECONDS
-        before all must have ended, by the clock of `to_find`."""
+        """The deadline of the same work where the limit is over and what is known may still grow by
+        a bound: KEPT_SECONDS before the end of all.
+
+        That end is by the wall where a limit of the wall was asked for; else it is by this
+        process's processor time, a tenth and GRACE_SECONDS after the limit.
+        """
         if self._is_by_wall:
             return Deadline(self.left_of_all() - KEPT_SECONDS)
         left = _with_grace(self.seconds) - KEPT_SECONDS - self.spent()

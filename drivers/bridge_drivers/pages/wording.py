@@ -1,4 +1,7 @@
-"""A certificate in sentences: what it claims, what its tree is made of, and what holds in its parts."""
+"""A certificate in sentences: what it claims, what its tree is made of, and what holds in its parts.
+
+`explanation` makes one `Wording` of each certificate that it explains.
+"""
 
 from __future__ import annotations
 

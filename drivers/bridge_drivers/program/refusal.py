@@ -154,7 +154,11 @@ class RefusalLine(NamedTuple):
 
 
 def parse_refusal(told: str) -> Optional[RefusalLine]:
-    """None where the line is no refusal."""
+    """A line of the proved program, read as a refusal; None where it is none.
+
+    Args:
+        told: The whole line without its end, such as `refused line 12: nonlinear`.
+    """
     head, colon, reason = told.partition(": ")
     found = REFUSED.fullmatch(head)
     if found is None or not colon:
