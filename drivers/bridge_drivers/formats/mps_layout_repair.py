@@ -236,22 +236,24 @@ def name_repair(text: bytes) -> Optional[Repair]:
 
 
 def double_bounds_repair(text: bytes) -> Optional[Repair]:
-    """The edits that leave out a line PL of the section BOUNDS whose column has a line UP behind
+    """The edits that leave out each line PL of the section BOUNDS whose column has a line UP behind
     it: no upper end is what a column has anyway. None where there is none.
     """
     start = 0 if text.startswith(b"BOUNDS") else text.find(b"\nBOUNDS") + 1
     if not text.startswith(b"BOUNDS", start) or b"PL" not in text[start:]:
         return None
-    endless: Dict[bytes, Edit] = {}
+    endless: Dict[bytes, List[Edit]] = {}  # lines PL, by their column
     edits: List[Edit] = []
+    count = 0
     for at, end in _data_lines(text, start):
         words = text[at:end].split()
         kind = words[0].upper() if words else b""
         if kind == b"PL" and len(words) in (2, 3):
-            endless[words[-1]] = Edit(at, end, b"")
+            endless.setdefault(words[-1], []).append(Edit(at, end, b""))
         elif kind == b"UP" and len(words) in (3, 4) and words[-2] in endless:
-            edits.append(endless.pop(words[-2]))
+            edits += endless.pop(words[-2])
+            count += 1
     if not edits:
         return None
-    columns = "1 column has" if len(edits) == 1 else f"{len(edits)} columns have"
+    columns = "1 column has" if count == 1 else f"{count} columns have"
     return Repair(edits, f"{columns} PL and then UP: PL is left out")

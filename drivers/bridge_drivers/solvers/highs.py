@@ -73,7 +73,7 @@ class Highs(Solver):
     infinite = "1e20"
     options = (SolverOption.MIP_GAP,)
     progress_patterns = (
-        r"^ *[A-Z]? *(?P<nodes>\d+) +(?P<open>\d+) +\d+ +[\d.]+% +(?P<bound>\S+) "
+        r"^ *(?:[A-Z] *)?(?P<nodes>\d+) +(?P<open>\d+) +\d+ +[\d.]+% +(?P<bound>\S+) "
         r"+(?P<incumbent>\S+) +\S+ ",
         r"^ +(?P<iterations>\d+) +(?P<objective>\S+) +(?:Pr|Du|Ph1):",
     )
