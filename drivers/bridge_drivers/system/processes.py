@@ -43,8 +43,17 @@ BUFFER_LIBRARIES = (
     "/usr/lib/coreutils/libstdbuf.so",
     "/usr/local/libexec/coreutils/libstdbuf.so",
 )
-# what stands beside each process, and kills its group where this process ends before it says so
-GUARD = 'read end || kill -s KILL -- "-$0"'
+# what stands beside each process, and kills its group where this process ends before it says so:
+# it is told the number of the group, and later that all is well
+GUARD = 'read group || exit; read end || kill -s KILL -- "-$group"'
+
+
+class Guarded(NamedTuple):
+    """A process, and what kills its group where this process ends wordlessly; None: no guard."""
+
+    process: subprocess.Popen[bytes]
+    guard: Optional[subprocess.Popen[bytes]]
+
 
 Sink = Callable[[bytes], None]  # is given each piece of a stream as it comes, and b"" at its end
 
@@ -127,8 +136,9 @@ def run(
     errors = _Memory(limits.memory_bytes)
     lines = _Lines(on_line, limits.line_bytes)
     with _open_log(log, limits) as to_log, SIGNALS.deferred():
-        child = _started(argv, streams, folder, by_lines=by_lines)
-        with _ended_at_last(child):
+        started = _started(argv, streams, folder, by_lines=by_lines)
+        child = started.process
+        with _ended_at_last(started):
             readers = [
                 *_readers_of(child.stdout, [memory.add, lines.add, *to_log]),
                 *_readers_of(child.stderr, [errors.add]),
@@ -176,8 +186,11 @@ def _readers_of(stream: Optional[IO[bytes]], sinks: Sequence[Sink]) -> List[_Rea
 
 def _started(
     argv: Sequence[str], streams: Streams, folder: Optional[str], *, by_lines: bool = False
-) -> subprocess.Popen[bytes]:
+) -> Guarded:
     """Starts a program in a session, and so a group, of its own, with nothing on standard input.
+
+    Its guard is there before it is, so that it does not outlive this process however soon that
+    ends.
 
     Args:
         folder: Where it runs; None: where this process does.
@@ -187,8 +200,9 @@ def _started(
         OSError: It cannot be started.
     """
     output = None if streams is Streams.PASSED_ON else subprocess.PIPE
+    guard = _guard()
     try:
-        return subprocess.Popen(
+        child = subprocess.Popen(
             argv,
             stdin=subprocess.DEVNULL,
             stdout=output,
@@ -198,7 +212,13 @@ def _started(
             start_new_session=True,
         )
     except ValueError as fault:  # a byte 0, or what no word of this system is
+        _dismiss(guard)
         raise OSError(errno.EINVAL, str(fault)) from None
+    except OSError:
+        _dismiss(guard)
+        raise
+    _tell(guard, f"{child.pid}\n")
+    return Guarded(child, guard)
 
 
 def line_buffering() -> Mapping[str, str]:
@@ -219,13 +239,13 @@ def line_buffering() -> Mapping[str, str]:
 
 
 @contextlib.contextmanager
-def _ended_at_last(child: subprocess.Popen[bytes]) -> Iterator[None]:
-    """A block in which a process goes on, with a guard beside it.
+def _ended_at_last(started: Guarded) -> Iterator[None]:
+    """A block in which a process goes on, with its guard beside it.
 
     At its end the process and what it started in its group are killed, the process is waited for,
     and its streams are closed.
     """
-    guard = _guard_of(child)
+    child = started.process
     SIGNALS.groups.add(child.pid)
     try:
         yield
@@ -233,23 +253,23 @@ def _ended_at_last(child: subprocess.Popen[bytes]) -> Iterator[None]:
         SIGNALS.groups.discard(child.pid)
         signal_group(child, signal.SIGKILL)  # before it is waited for: its number is still its own
         child.wait()
-        if guard is not None:
-            with contextlib.suppress(OSError):
-                guard.communicate(b"end\n")
+        _tell(started.guard, "end\n")
+        _dismiss(started.guard)
         for stream in (child.stdout, child.stderr):
             if stream is not None:
                 stream.close()
 
 
-def _guard_of(child: subprocess.Popen[bytes]) -> Optional[subprocess.Popen[bytes]]:
-    """Starts a small process that kills the group of `child` where this process ends wordlessly.
+def _guard() -> Optional[subprocess.Popen[bytes]]:
+    """Starts a small process that kills a group where this process ends wordlessly.
 
-    It waits at a pipe that this process alone holds open: a line there says that all is well, its
-    end that this process has gone. None where there is no shell.
+    It waits at a pipe that this process alone holds open. The first line there is the number of the
+    group, the next one says that all is well; the end of the pipe says that this process has gone.
+    None where there is no shell.
     """
     try:
         return subprocess.Popen(
-            ["/bin/sh", "-c", GUARD, str(child.pid)],
+            ["/bin/sh", "-c", GUARD],
             stdin=subprocess.PIPE,
             stdout=subprocess.DEVNULL,
             stderr=subprocess.DEVNULL,
@@ -257,6 +277,22 @@ def _guard_of(child: subprocess.Popen[bytes]) -> Optional[subprocess.Popen[bytes
         )
     except OSError:
         return None
+
+
+def _tell(guard: Optional[subprocess.Popen[bytes]], line: str) -> None:
+    """Writes a line for a guard; nothing where there is none, or it has gone."""
+    if guard is None or guard.stdin is None:
+        return
+    with contextlib.suppress(OSError):
+        guard.stdin.write(line.encode("ascii"))
+        guard.stdin.flush()
+
+
+def _dismiss(guard: Optional[subprocess.Popen[bytes]]) -> None:
+    """Closes the pipe of a guard, whose process has ended or was never started, and waits for it."""
+    if guard is not None:
+        with contextlib.suppress(OSError):
+            guard.communicate()
 
 
 @contextlib.contextmanager

@@ -287,7 +287,9 @@ def test_a_process_that_is_being_started_has_ended(gate: SignalGate) -> None:
 
     with mock.patch.object(subprocess, "Popen", interrupted), pytest.raises(Interrupted):
         run(["sleep", LONG], Deadline())
-    assert started[0].returncode == -signal.SIGKILL
+    guard, child = started
+    assert child.args == ["sleep", LONG] and child.returncode == -signal.SIGKILL
+    assert guard.returncode is not None
 
 
 def test_a_second_signal_does_not_break_off_the_end_of_a_process(
