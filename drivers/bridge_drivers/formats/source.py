@@ -12,6 +12,7 @@ alone no copy is needed (`commands.nl_bridge`).
 
 from __future__ import annotations
 
+import contextlib
 import hashlib
 import io
 import lzma
@@ -22,7 +23,7 @@ import shutil
 import stat
 import zlib
 from dataclasses import dataclass, field, replace
-from typing import BinaryIO, NamedTuple, Optional, Sequence, Set
+from typing import BinaryIO, Iterator, NamedTuple, Optional, Sequence, Set
 
 from ..system.errors import Damaged, FileAction, FileFault, NoModel, TooLarge
 from . import file_kinds
@@ -356,6 +357,7 @@ def _copied(
 
     Raises:
         TooLarge: The text goes on past a limit. What was written stays in the workspace.
+        FileFault: The copy cannot be written.
     """
     path = workspace.new_path()
     digest = hashlib.sha256()
@@ -369,8 +371,20 @@ def _copied(
                 raise TooLarge(source.name, size)
             start += piece[: file_kinds.LOOKED_AT - len(start)]
             digest.update(piece)
-            copy.write(piece)
+            with _faults_of_writing(path):
+                copy.write(piece)
+        with _faults_of_writing(path):
+            copy.flush()
     return replace(source, path=path, start=start, digest=digest.hexdigest())
+
+
+@contextlib.contextmanager
+def _faults_of_writing(path: str) -> Iterator[None]:
+    """A block that writes a copy: what fails there is told of the copy, and not of what is read."""
+    try:
+        yield
+    except OSError as fault:
+        raise FileFault(path, str(fault.strerror), FileAction.WRITE) from None
 
 
 def _with_kind(source: Source) -> Source:

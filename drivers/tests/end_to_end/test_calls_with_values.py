@@ -115,7 +115,7 @@ def test_progress(in_folder: Workspace, caplog: pytest.LogCaptureFixture) -> Non
         report = solve("knap", "cbc", program=script, on_progress=note)
     assert report.text == "optimal 17"
     first = events[0]
-    assert (first.stage, first.incumbent, first.bound) == ("told", 16.0, 18.5)
+    assert (first.stage, first.incumbent, first.bound) == ("cbc", 16.0, 18.5)
     assert first.numbers["nodes"] == 3
     names = {record.name for record in caplog.records}
     assert {"bridge_drivers", "bridge_drivers.solver", "bridge_drivers.progress"} <= names

@@ -26,6 +26,7 @@ WORDS = (
     "stats",
     "verify",
     "verify_fixed",
+    "certified",
     "verify_mps",
     "version",
 )
