@@ -13,6 +13,7 @@ alone no copy is needed (`commands.nl_bridge`).
 from __future__ import annotations
 
 import contextlib
+import errno
 import hashlib
 import io
 import lzma
@@ -35,6 +36,7 @@ STANDARD_INPUT = ("-", "/dev/stdin")
 STANDARD_NAME = "stdin"  # the stub of a model beside which no file can stand
 PIECE = 1 << 20  # bytes that are copied at once
 DAMAGES = (EOFError, ValueError, zlib.error, lzma.LZMAError)
+NO_ROOM = (errno.EFBIG, errno.ENOSPC, errno.EDQUOT)  # what writing alone comes to
 
 
 class Limits(NamedTuple):
@@ -363,7 +365,7 @@ def _copied(
     digest = hashlib.sha256()
     size = 0
     start = b""
-    with new_file(path) as copy:
+    with _full_disk_told_of(path), new_file(path) as copy:
         for piece in iter(lambda: text.read(PIECE), b""):
             assert piece is not None
             size += len(piece)
@@ -371,19 +373,18 @@ def _copied(
                 raise TooLarge(source.name, size)
             start += piece[: file_kinds.LOOKED_AT - len(start)]
             digest.update(piece)
-            with _faults_of_writing(path):
-                copy.write(piece)
-        with _faults_of_writing(path):
-            copy.flush()
+            copy.write(piece)
     return replace(source, path=path, start=start, digest=digest.hexdigest())
 
 
 @contextlib.contextmanager
-def _faults_of_writing(path: str) -> Iterator[None]:
-    """A block that writes a copy: what fails there is told of the copy, and not of what is read."""
+def _full_disk_told_of(path: str) -> Iterator[None]:
+    """A block that reads and writes a copy: that there is no room for more is told of the copy."""
     try:
         yield
     except OSError as fault:
+        if fault.errno not in NO_ROOM:
+            raise
         raise FileFault(path, str(fault.strerror), FileAction.WRITE) from None
 
 
