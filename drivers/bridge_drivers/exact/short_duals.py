@@ -12,7 +12,7 @@ from __future__ import annotations
 import math
 from fractions import Fraction
 from math import lcm
-from typing import Dict, List, Mapping, NamedTuple, Optional, Sequence
+from typing import List, Mapping, NamedTuple, Optional, Sequence
 
 from ..model.integer_form import Box, IntegerProgram
 from ..system.deadline import Deadline

@@ -36,7 +36,10 @@ def boxed_equations(draw: st.DrawFn) -> IntegerProgram:
     count = draw(st.integers(2, 4))
     columns = [
         Column(
-            draw(st.integers(-3, 0)), draw(st.integers(1, 4)), True, cost=draw(st.integers(-9, 9))
+            draw(st.integers(-3, 0)),
+            draw(st.integers(1, 4)),
+            is_integer=True,
+            cost=draw(st.integers(-9, 9)),
         )
         for _ in range(count)
     ]
@@ -88,8 +91,8 @@ def test_forms_are_whole_at_all_points(p: IntegerProgram) -> None:
 
 def remainders(moduli: List[int], rests: List[int], most: int) -> IntegerProgram:
     """The least x below `most` with these remainders: x = m k + r for each pair."""
-    columns = [Column(0, most, True, 1)]
-    columns += [Column(0, most, True) for _ in moduli]
+    columns = [Column(0, most, is_integer=True, cost=1)]
+    columns += [Column(0, most, is_integer=True) for _ in moduli]
     rows = [Row(r, r, {0: 1, k + 1: -m}) for k, (m, r) in enumerate(zip(moduli, rests))]
     return program(columns, rows)
 
@@ -123,7 +126,7 @@ def test_two_coprime_numbers(a: int, b: int, has_room: bool) -> None:
     """a x - b y = 1: the least x is the inverse of a; in a smaller box there is no point."""
     x = pow(a, -1, b)
     most = x if has_room else x - 1
-    columns = [Column(0, most, True, 1), Column(0, None, True)]
+    columns = [Column(0, most, is_integer=True, cost=1), Column(0, None, is_integer=True)]
     p = program(columns, [Row(1, 1, {0: a, 1: -b})])
     found = lattice_optimum(p, goes_on)
     assert found is not None
@@ -134,7 +137,7 @@ def test_two_coprime_numbers(a: int, b: int, has_room: bool) -> None:
 def test_a_frobenius_number_has_no_sum() -> None:
     """Of coins without a common divisor the largest number that is no sum of them, and the next."""
     coins = {0: 12223, 1: 12224, 2: 36674}
-    columns = [Column(0, None, True, 1) for _ in coins]
+    columns = [Column(0, None, is_integer=True, cost=1) for _ in coins]
     for side, is_sum in ((89643481, False), (12223 * 5 + 36674 * 3, True)):
         found = lattice_optimum(program(columns, [Row(side, side, coins)]), goes_on)
         assert found is not None and found.tree is not None
@@ -150,7 +153,7 @@ def test_wide_rows(size: int, numbers: List[int], rest: int) -> None:
     """A row with a coefficient beside which doubles lose the other one."""
     a, cost, most = numbers
     p = program(
-        [Column(0, 5, True, cost), Column(0, 6, True, 1)],
+        [Column(0, 5, is_integer=True, cost=cost), Column(0, 6, is_integer=True, cost=1)],
         [Row(None, most % 5 * size + rest, {0: size, 1: a})],
         "max",
     )
@@ -162,7 +165,7 @@ def test_wide_rows(size: int, numbers: List[int], rest: int) -> None:
 
 def test_what_is_left_alone() -> None:
     """Programs without equations of integer columns, without a solution, and large ones."""
-    free = Column(None, None, True)
+    free = Column(None, None, is_integer=True)
     assert lattice_optimum(program([free], [Row(1, None, {0: 2})]), goes_on) is None
     contradicted = program([free, free], [Row(1, 1, {0: 2, 1: 4})])
     assert hermite_refutation(contradicted) is not None
@@ -178,7 +181,7 @@ def test_a_search_that_is_ended_has_its_best_point() -> None:
         if next(steps) > 200:
             raise SearchEnded("time")
 
-    columns = [Column(0, 60, True, cost) for cost in (5, 7, 11, 13, 17, 19)]
+    columns = [Column(0, 60, is_integer=True, cost=cost) for cost in (5, 7, 11, 13, 17, 19)]
     p = program(columns, [Row(997, 997, dict(enumerate((3, 17, 19, 23, 29, 31))))])
     found = lattice_optimum(p, ends_late)
     assert found is not None
