@@ -346,9 +346,9 @@ def test_it_ends_with_this_process(tmp_path: Path, number: signal.Signals, statu
 
 
 def is_stopped(number: int) -> bool:
-    """Whether a process waits for SIGCONT."""
+    """Whether a process waits for SIGCONT, or for a child that it is just starting and that does."""
     state = Path(f"/proc/{number}/stat").read_text(encoding="latin-1")
-    return state.rpartition(")")[2].split()[0] == "T"
+    return state.rpartition(")")[2].split()[0] in "TD"
 
 
 def test_a_stop_is_all_of_them(tmp_path: Path) -> None:
