@@ -2,13 +2,16 @@
 
 from __future__ import annotations
 
+import json
 import shlex
-from typing import Sequence
+import subprocess
+import sys
+from typing import Sequence, Tuple
 
 import pytest
 
 from builders.nl_text import least, nl_text, real, row, whole
-from running.places import EXAMPLES, program
+from running.places import BIN, DRIVERS, EXAMPLES, TESTS, program
 from running.stored_runs import stored_runs
 from running.workspace import Call, Reply, SolContent, Workspace
 
@@ -147,3 +150,63 @@ def test_the_command_takes_what_others_take(workspace: Workspace, way: str) -> N
     }
     ended = workspace.check(Call(calls[way], is_shell=True))
     assert ended.out.encode() == wanted
+
+
+# How MiniZinc calls a driver, with what it reads and what comes back kept beside the test.
+KEEPING = """
+{driver} "$@" strict=1 certificate={folder}/kept overwrite=1
+status=$?
+cp "$1" {folder}/kept.nl
+cp "${{1%.nl}}.sol" {folder}/kept.sol
+exit $status
+"""
+
+
+def minizinc_with_strict(workspace: Workspace, model: str) -> Tuple[str, bytes]:
+    """What MiniZinc prints of a model of tests/mzn by cbc with strict=1, and the .sol it read."""
+    settings = json.loads((DRIVERS / "minizinc" / "bridge-cbc.msc").read_text())
+    driver = shlex.join([sys.executable, str(BIN / "bridge-cbc")])
+    script = KEEPING.format(driver=driver, folder=shlex.quote(str(workspace.folder)))
+    changes = {
+        "id": "org.bridge.strict",
+        "name": "bridge-strict",
+        "executable": [str(workspace.script("keeping", script)), *settings["executable"][1:]],
+    }
+    workspace.write("strict.msc", json.dumps({**settings, **changes}))
+    done = subprocess.run(
+        ["minizinc", "--solver", "bridge-strict", str(TESTS / "mzn" / f"{model}.mzn")],
+        env=workspace.environment(MZN_SOLVER_PATH=str(workspace.folder)),
+        capture_output=True,
+        text=True,
+        cwd=workspace.folder,
+    )
+    return done.stdout, workspace.read("kept.sol")
+
+
+@pytest.mark.needs("cbc", "minizinc")
+@pytest.mark.parametrize(
+    ("model", "printed", "verdict"),
+    [
+        ("mix", "----------\n==========\n", "optimal 173/4"),
+        ("assign", "----------\n==========\n", "optimal"),
+        ("knapsack30", "----------\n==========\n", "optimal"),
+        ("infeasible", "=====UNSATISFIABLE=====\n", "infeasible"),
+        ("unbounded", "=====UNBOUNDED=====\n", "unbounded"),
+    ],
+)
+def test_minizinc_reads_what_is_certified(
+    workspace: Workspace, model: str, printed: str, verdict: str
+) -> None:
+    """The .sol that MiniZinc reads is what `certified` writes of the model's own .nl file."""
+    told, sol = minizinc_with_strict(workspace, model)
+    assert printed in told
+    assert sol == certified_text(workspace, "kept.nl", "kept")
+    assert sol.startswith(verdict.encode())
+
+
+@pytest.mark.needs("cbc", "minizinc")
+def test_minizinc_gets_no_value_without_a_decimal(workspace: Workspace) -> None:
+    """The optimum of this program is at multiples of 1/17: no .sol can hold them."""
+    told, sol = minizinc_with_strict(workspace, "thirds")
+    assert "=====UNKNOWN=====" in told
+    assert b"has no decimal" in sol
