@@ -5,6 +5,7 @@
     generate.py nested OUT.nl VARIABLES SHAPE       one row: a tree in which each variable stands once
     generate.py leaves FOLDER DEPTH                 leaves.nl, and a certificate `bound 3`: 2^DEPTH leaves
     generate.py planes FOLDER COUNT                 planes.nl, and one that is a chain of planes
+    generate.py written OUT TEXT MANNER             the lines of a text, written in another manner
 
 FORM   linear       the terms stand under J (what modelling systems write)
        list         each term is an expression, in a list under C
@@ -24,12 +25,16 @@ SHAPE  right        v + (v + (v + ..))
        lists        v + v + (v + v + (..)), each a list of three
        balanced     the sum of two halves, each of which is such a sum
        spine        v + .. + v of 200 variables, and a tree of that shape, added up
+MANNER crlf, trailing (a blank at the end of each line), padded (one before it), tabs (in place of blanks), empty (a line
+       without a word after each), digits (20 of them in each decimal); for .nl texts comments (at the end of each line)
+       and remarks (a line that is a comment after each); for MPS texts fixed (fields in their columns)
 Of `rows` half of the variables are whole, and coefficients have one to six digits behind the point. The program of
 certificates has 1,000 whole variables from 0 to 9 and 1,000 rows of 10 terms; each leaf with duals names three rows.
 """
 from __future__ import annotations
 
 import random
+import re
 import sys
 from collections import Counter
 from collections.abc import Callable, Iterable, Iterator
@@ -39,6 +44,7 @@ from pathlib import Path
 sys.path.append(str(Path(__file__).resolve().parents[1] / "dev"))
 from shared import asked  # noqa: E402
 
+DECIMAL = re.compile(r"-?\d+\.\d+")
 SIDE = 200
 VARIABLES = ROWS = 1000
 TERMS = 10
@@ -304,6 +310,55 @@ def planes(count: int) -> Iterator[str]:
     yield duals(0)
 
 
+def long_number(word: str) -> str:
+    """A decimal with further digits, so that it has 20."""
+    if not DECIMAL.fullmatch(word):
+        return word
+    missing = 20 - sum(character.isdigit() for character in word)
+    return word + "7" * missing
+
+
+def in_fixed_columns(line: str) -> str:
+    """A line of a free MPS text with its fields in the columns of the fixed form.
+
+    A line with a kind (of a row or a bound) has it in field 1; names of at most 8 bytes.
+    """
+    words = line.split()
+    if not line.startswith(" ") or not words:
+        return line.replace(" FREE", "")
+    kind = words.pop(0) if words[0] in ("N", "L", "G", "E", "UP") else ""
+    fields = [*words, "", "", ""]
+    return f" {kind:<2} {fields[0]:<8}  {fields[1]:<8}  {fields[2]}".rstrip()
+
+
+MANNERS: dict[str, Callable[[str], str]] = {
+    "crlf": lambda line: f"{line}\r",
+    "trailing": lambda line: f"{line} ",
+    "padded": lambda line: f" {line}",
+    "tabs": lambda line: line.replace(" ", "\t"),
+    "empty": lambda line: f"{line}\n",
+    "digits": lambda line: " ".join(map(long_number, line.split(" "))),
+    "comments": lambda line: f"{line} # a remark",
+    "remarks": lambda line: f"{line}\n# a remark",
+    "fixed": in_fixed_columns,
+}
+
+
+def written(text: str, manner: str) -> Iterator[str]:
+    """The lines of a text in one of the manners; the first line of an .nl text stays as it is.
+
+    Args:
+        text: the path of an .nl or a free MPS text.
+        manner: a key of MANNERS.
+    """
+    change = MANNERS[manner]
+    with open(text) as lines:
+        for number, line in enumerate(lines):
+            bare = line.removesuffix("\n")
+            is_kept = number == 0 and bare.startswith("g")
+            yield line if is_kept else change(bare) + "\n"
+
+
 def main(kind: str, out: str, size: str, *more: str) -> None:
     makers: dict[str, Callable[..., Iterator[str]]] = {
         "rows": rows,
@@ -313,7 +368,10 @@ def main(kind: str, out: str, size: str, *more: str) -> None:
         "leaves": leaves,
         "planes": planes,
     }
-    made = makers[kind](int(size), *(int(word) if word.isdecimal() else word for word in more))
+    if kind == "written":
+        made = written(size, *more)
+    else:
+        made = makers[kind](int(size), *(int(word) if word.isdecimal() else word for word in more))
     texts = {Path(out): made}
     if kind in ("leaves", "planes"):
         texts = {
@@ -321,7 +379,7 @@ def main(kind: str, out: str, size: str, *more: str) -> None:
             Path(out, f"{kind}.certificate"): chain(["certificate 1\nbound 0 3\n"], made),
         }
     for path, parts in texts.items():
-        with path.open("w") as stream:
+        with path.open("w", newline="") as stream:
             stream.writelines(parts)
 
 

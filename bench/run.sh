@@ -1,7 +1,8 @@
 #!/usr/bin/env bash
 # Times the built program: `export` beside a plain converter on AMPL's own library (asl2mps.c, which is built here where
 # Debian's libamplsolver-dev is there) and of nested trees and other forms beside smaller ones, `mps`, which reads and writes, beside clp,
-# which reads alone (coinor-clp), `verify_mps` beside `verify` of the same program as .nl, and `verify` of large certificates.
+# which reads alone (coinor-clp), of texts in another manner (CR LF, blanks, comments, fixed columns) beside the plain ones,
+# `verify_mps` beside `verify` of the same program as .nl, and `verify` of large certificates.
 #
 #     [TERMS="1000000 2000000 4000000"] [RUNS=5] bench/run.sh PROGRAM [BASELINE]
 #
@@ -186,6 +187,25 @@ for order in ordered mixed; do
         printf '%9s %9s %8s %8s %6s %14s\n' "${sizes[0]}" "$order$length" "$seconds" "$beside" "$(ratio "$seconds" "$beside")" \
             "$(bytes_each "$peak" "${sizes[0]}")"
     done
+done
+
+echo
+echo "texts written in another manner (of generate.py), beside the plain one: export of rows of ten terms, mps of names of 8 bytes"
+printf '%9s %8s %9s %8s %8s %6s\n' terms command manner seconds plain times
+python3 "$here/generate.py" mps "$work/plain.mps" "${sizes[0]}" ordered8
+in_manner() {
+    local command=$1 plain=$2 manner=$3 other=$1
+    [ "$manner" != fixed ] || other=fixed
+    python3 "$here/generate.py" written "$work/manner" "$plain" "$manner"
+    times=$(measure 0 "$program" "$other" "$work/manner" ::: 0 "$program" "$command" "$plain")
+    read -r seconds _ beside _ <<<"$times"
+    printf '%9s %8s %9s %8s %8s %6s\n' "${sizes[0]}" "$other" "$manner" "$seconds" "$beside" "$(ratio "$seconds" "$beside")"
+}
+for manner in crlf trailing comments padded tabs empty remarks digits; do
+    in_manner export "$(nl_text "${sizes[0]}" linear)" "$manner"
+done
+for manner in crlf trailing tabs empty digits fixed; do
+    in_manner mps "$work/plain.mps" "$manner"
 done
 
 echo
