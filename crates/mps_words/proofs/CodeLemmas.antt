@@ -1,7 +1,7 @@
 -- Names by their codes.
 use Rattle.std.proofs.Common.{◌≡◌, ◌≢◌, ◌∙◌, ℕ, zero, suc, ◌+◌, ◌-◌, ◌*◌, ◌/◌, ◌%◌, ◌<◌, ◌≤◌, ◌^◌, List, [], ◌∷◌, ◌++◌}
 use Rattle.std.proofs.Common.{Bool, true, false, length, map, take, drop, set, get_or, nat_eq, Option, Some, None, refl}
-use Rattle.std.proofs.Common.{sym, ap, arith, subst, Fits, w8, not, ◌==◌, ◌⊎◌, inl, inr}
+use Rattle.std.proofs.Common.{sym, ap, arith, subst, Fits, w8, ◌==◌, ◌⊎◌, inl, inr}
 use Rattle.std.specs.Prelude.{All, AllPairs, IfSome, nat_le, nat_lt, fold, slice_get, option_map, unwrap_or}
 use Rattle.std.specs.List.{position, list_any}
 use Rattle.indexmap.specs.IndexSet.{insert_key}
@@ -338,9 +338,9 @@ pub wide_more : (narrow wide codes more : List ℕ) (code : ℕ) → narrow ++ w
     → All (λ c. c ≢ code) codes → more ≡ insert_key nat_eq wide code → narrow ++ more ≡ codes ++ code ∷ []
 wide_more narrow wide codes more code same h is =
     let absent : All (λ c. c ≢ code) wide = λ k d lt equal.
-        let within : length narrow + k < length codes = omega (arith, lt, length-append narrow wide, ap length same) in
-        let here : get_or codes (length narrow + k) d ≡ get_or wide k d = ap (λ (cs : List ℕ). get_or cs (length narrow + k) d) (sym same) ∙ get_or-append-add narrow wide k d in
-        h (length narrow + k) d within (here ∙ equal) in
+    let within : length narrow + k < length codes = omega (arith, lt, length-append narrow wide, ap length same) in
+    let here : get_or codes (length narrow + k) d ≡ get_or wide k d = ap (λ (cs : List ℕ). get_or cs (length narrow + k) d) (sym same) ∙ get_or-append-add narrow wide k d in
+    h (length narrow + k) d within (here ∙ equal) in
     ap (λ (cs : List ℕ). narrow ++ cs) (is ∙ code_pushed wide code absent) ∙ sym (append_assoc narrow wide (code ∷ []))
     ∙ ap (λ (cs : List ℕ). cs ++ code ∷ []) same
 

@@ -1,15 +1,14 @@
 -- Short names that a text begins with.
-use Rattle.std.proofs.Common.{◌≡◌, ◌≢◌, ◌∙◌, ℕ, zero, suc, ◌+◌, ◌-◌, ◌*◌, ◌/◌, ◌%◌, ◌<◌, ◌≤◌, ◌^◌, List, [], ◌∷◌, ◌++◌}
+use Rattle.std.proofs.Common.{◌≡◌, ◌≢◌, ◌∙◌, ℕ, zero, suc, ◌+◌, ◌-◌, ◌*◌, ◌/◌, ◌<◌, ◌≤◌, ◌^◌, List, [], ◌∷◌, ◌++◌}
 use Rattle.std.proofs.Common.{length, take, drop, get_or, Bool, true, false, refl, sym, ap, ap₂, arith, subst, Option, Some, None}
 use Rattle.std.proofs.Common.{mul-le-mul_right}
-use Rattle.std.specs.Prelude.{IfSome, fold, nat_le}
-use Rattle.std.proofs.lemmas.Nat.{div-mul-add, mod-mul-add, pow-add, one_shl}
+use Rattle.std.specs.Prelude.{IfSome, fold}
+use Rattle.std.proofs.lemmas.Nat.{div-mul-add, pow-add}
 use Rattle.std.proofs.lemmas.Grind.{pow_more}
 use Rattle.std.proofs.lemmas.List.{length-take-le, length-drop, take-append-drop, drop_more, take_at}
-use Rattle.std.proofs.lemmas.Bool.{le-leb}
 use Rattle.std.proofs.Math.Seq.{take-add}
 use Rattle.std.proofs.lemmas.List.Elements.{All-head, All-tail, All-take, All-drop}
-use Rattle.std.proofs.lemmas.List.Sums.{fold-append, fold_more}
+use Rattle.std.proofs.lemmas.List.Sums.{fold-append}
 use Rattle.std.specs.Str.{bytes_eq}
 use Rattle.text_base.specs.Names.{is_name}
 use Rattle.mps_model.specs.Valid.{marker_word}

@@ -1,4 +1,4 @@
-use Rattle.std.proofs.Common.{◌≡◌, ◌∙◌, ◌*◌, ◌+◌, ◌^◌, ◌≤◌, List, ℕ, arith, refl, ap, subst, sym, length, take, drop, fold}
+use Rattle.std.proofs.Common.{◌≡◌, ◌∙◌, ◌*◌, ◌+◌, ◌^◌, ◌≤◌, List, ℕ, arith, refl, ap, subst, length, take, drop, fold}
 use Rattle.std.proofs.lemmas.List.{length-drop}
 use Rattle.mps_words.specs.InsideCodes.{with_byte}
 use Rattle.mps_words.proofs.CodeLemmas.{are_bytes}
