@@ -257,11 +257,10 @@ impl Codes {
     fn get(&self, place: usize) -> Option<u128>
         ensures { result ≡ slice_get self.now place }
     {
-        let short = self.short.len();
-        if place < short {
-            return self.short.get(place);
+        match self.short.get(place) {
+            Some(code) => Some(code),
+            None => self.behind.get(place - self.short.len()).copied(),
         }
-        self.behind.get(place - short).copied()
     }
 
     /// The code at a place, 0 where there is none.

@@ -42,6 +42,19 @@ fn narrow_place(codes: &IndexSet<u64>, code: u128) -> Option<usize>
     codes.get_index_of(&narrow)
 }
 
+// The place of a code among those from the first wide one on.
+fn wide_place(codes: &IndexSet<u128>, code: u128) -> Option<usize>
+    ensures within { IfSome result (λ p. p < length codes.now.keys) }
+    ensures found { IfSome result (λ p. get_or codes.now.keys p 0 ≡ code) }
+    ensures absent { result ≡ None → All (λ c. c ≢ code) codes.now.keys }
+{
+    // without its hash where there is none
+    if codes.len() == 0 {
+        return None;
+    }
+    codes.get_index_of(&code)
+}
+
 impl ShortCodes {
     /// No codes.
     pub(crate) fn new(alloc: Global) -> ShortCodes
@@ -83,7 +96,7 @@ impl ShortCodes {
         if let Some(place) = narrow_place(&self.narrow, code) {
             return Some(place);
         }
-        let Some(place) = self.wide.get_index_of(&code) else {
+        let Some(place) = wide_place(&self.wide, code) else {
             return None;
         };
         let _wide = self.wide.as_slice();
