@@ -181,14 +181,14 @@ fn first_wide(text: &[u8], head: u64, end: u8) -> Option<(Key, &[u8])>
     let Some(tail) = head_of(text.split_at(8).1) else {
         return None;
     };
-    let size = 8 + size_before(tail, end);
-    if size >= text.len() || text[size] != end {
+    let count = 8 + size_before(tail, end);
+    if count >= text.len() || text[count] != end {
         return None;
     }
     let both = head as u128 * 0x1_0000_0000_0000_0000 + tail as u128;
-    let code = both >> (128 - 8 * size);
+    let code = both >> (128 - 8 * count);
     let number = number_of(end_of(code));
-    Some((Key { code, number }, text.split_at(size + 1).1))
+    Some((Key { code, number }, text.split_at(count + 1).1))
 }
 
 /// The key of the short name that a text begins with, before this byte, and what follows that.

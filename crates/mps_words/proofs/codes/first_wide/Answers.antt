@@ -14,6 +14,6 @@ returns c =
     let long : 16 ≤ length text = omega (arith, more, length-drop 8 text) in
     let both = both_heads text c.args.head c.in-Some.tail more c.requires.value tail in
     let first = head_begins text c.args.head bytes (omega (arith, long)) c.requires.value c.requires.first in
-    head_name 16 text c.split_at-2.result.1.now (c.args.head * 2 ^ 64 + c.in-Some.tail) (8 + c.size_before-size.result) c.args.end _
+    head_name 16 text c.split_at-2.result.1.now (c.args.head * 2 ^ 64 + c.in-Some.tail) (8 + c.size_before-count.result) c.args.end _
     bytes long (omega arith) both
     (omega arith) (omega arith) first (omega arith) (omega arith) c.split_at-2.ensures.back refl
