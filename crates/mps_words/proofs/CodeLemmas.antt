@@ -1,7 +1,7 @@
 -- Names by their codes.
 use Rattle.std.proofs.Common.{◌≡◌, ◌≢◌, ◌∙◌, ℕ, zero, suc, ◌+◌, ◌-◌, ◌*◌, ◌/◌, ◌%◌, ◌<◌, ◌≤◌, ◌^◌, List, [], ◌∷◌, ◌++◌}
 use Rattle.std.proofs.Common.{Bool, true, false, length, map, take, drop, set, get_or, nat_eq, Option, Some, None, refl}
-use Rattle.std.proofs.Common.{sym, ap, arith, subst, Fits, w8, not, ◌==◌, ◌⊎◌, inl, inr}
+use Rattle.std.proofs.Common.{sym, ap, arith, subst, Fits, w8, ◌==◌, ◌⊎◌, inl, inr}
 use Rattle.std.specs.Prelude.{All, AllPairs, IfSome, nat_le, nat_lt, fold, slice_get, option_map, unwrap_or}
 use Rattle.std.specs.List.{position, list_any}
 use Rattle.indexmap.specs.IndexSet.{insert_key}
@@ -11,7 +11,7 @@ use Rattle.std.proofs.lemmas.Bool.Decides.{nat_tests}
 use Rattle.std.proofs.lemmas.Nat.{div-mul-add, mod-mul-add}
 use Rattle.std.proofs.lemmas.Grind.{get_or_default_zero}
 use Rattle.std.proofs.lemmas.List.{length-map, map-append, get_or-map, length-append, length-take-le, take_more}
-use Rattle.std.proofs.lemmas.List.{take_all, take-map, get_or-take, get_or_default, drop-set, append_assoc, append-nil}
+use Rattle.std.proofs.lemmas.List.{take_all, take-map, get_or-take, get_or_default, drop-set, append_assoc, append-nil, get_or-append-add}
 use Rattle.std.proofs.lemmas.List.{take-append-drop}
 use Rattle.std.proofs.lemmas.List.Elements.{All-head, All-tail, All-push, All-take, All-get_or}
 use Rattle.std.proofs.lemmas.List.Sums.{fold_push, fails_before_first}
@@ -30,10 +30,10 @@ use Rattle.std.proofs.lemmas.Bool.{and_parts, leb-true, ltb-true, lt-ltb, lt-leb
 
 -- ---- sizes
 
-most : (n : ℕ) → n ≤ 7 → 256 ^ n ≤ 256 ^ 7
+most : (n : ℕ) → n ≤ 15 → 256 ^ n ≤ 256 ^ 15
 most n le = pow-le-pow_right (omega arith) le
 
-pub code_fits : (code b place : ℕ) → code < 256 ^ place → b < 256 → place < 8 → code * 256 + b < 2 ^ 64
+pub code_fits : (code b place : ℕ) → code < 256 ^ place → b < 256 → place < 16 → code * 256 + b < 2 ^ 128
 code_fits code b place small byte le = omega (arith, small, byte, most place (omega (arith, le)))
 
 -- ---- the name of a code
@@ -125,27 +125,27 @@ starts_take : (n : ℕ) (text : List ℕ) → 0 < get_or text 0 0 → StartsSome
 starts_take n [] first = absurd (omega (arith, first))
 starts_take n (b ∷ bytes) first = starts_front n b bytes first
 
-pub after_found : (text : List ℕ) (passed code : ℕ) → AreBytes text → 0 < get_or text 0 0 → passed ≤ 8 → passed ≤ length text
+pub after_found : (text : List ℕ) (passed code : ℕ) → AreBytes text → 0 < get_or text 0 0 → passed ≤ 16 → passed ≤ length text
     → code ≡ bytes_code (take passed text) → text ≡ name_of code ++ drop passed text
 unfolding name_of
 after_found text passed code h first few within e =
-    let size : length (take passed text) ≤ 8 = omega (arith, few, length-take-le passed text within) in
-    let back : last_bytes 8 code ≡ take passed text =
-    ap (last_bytes 8) e ∙ bytes_back 8 (take passed text) size (All-take (λ (c : ℕ). c < 256) passed text h) (starts_take passed text first) in
+    let size : length (take passed text) ≤ 16 = omega (arith, few, length-take-le passed text within) in
+    let back : last_bytes 16 code ≡ take passed text =
+    ap (last_bytes 16) e ∙ bytes_back 16 (take passed text) size (All-take (λ (c : ℕ). c < 256) passed text h) (starts_take passed text first) in
     sym (take-append-drop passed text) ∙ ap (λ (bs : List ℕ). bs ++ drop passed text) (sym back)
 
 -- what a short name is
 pub record ShortName (name : List ℕ) : Type 0 where
   pub first : 0 < get_or name 0 0
-  pub few : length name ≤ 8
+  pub few : length name ≤ 16
 
 pub short_name : (name : List ℕ) → is_short name ≡ true → ShortName name
 short_name name e =
-    let parts = and_parts (nat_lt 0 (get_or name 0 0)) (nat_le (length name) 8) e in
-    record { first = ltb-true 0 (get_or name 0 0) parts.0; few = leb-true (length name) 8 parts.1 }
+    let parts = and_parts (nat_lt 0 (get_or name 0 0)) (nat_le (length name) 16) e in
+    record { first = ltb-true 0 (get_or name 0 0) parts.0; few = leb-true (length name) 16 parts.1 }
 
-pub is_short_name : (name : List ℕ) → 0 < get_or name 0 0 → length name ≤ 8 → is_short name ≡ true
-is_short_name name first few = rw (lt-ltb 0 (get_or name 0 0) first) (le-leb (length name) 8 few)
+pub is_short_name : (name : List ℕ) → 0 < get_or name 0 0 → length name ≤ 16 → is_short name ≡ true
+is_short_name name first few = rw (lt-ltb 0 (get_or name 0 0) first) (le-leb (length name) 16 few)
 
 pub short_code : (name : List ℕ) → is_short name ≡ true → code_of name ≡ bytes_code name
 unfolding code_of
@@ -173,14 +173,14 @@ name_begins (b ∷ bytes) h = omega (arith, leb-true 33 b (and_parts (nat_le 33 
 named_above : (code : ℕ) → is_name (name_of code) ≡ true → 0 < code_of (name_of code)
 unfolding name_of
 named_above code e =
-    let name = last_bytes 8 code in
-    short_above name (is_short_name name (name_begins name (named name e)) (few_bytes 8 code))
+    let name = last_bytes 16 code in
+    short_above name (is_short_name name (name_begins name (named name e)) (few_bytes 16 code))
 
 pub name_back : (name : List ℕ) → AreBytes name → 0 < code_of name → name_of (code_of name) ≡ name
 unfolding name_of
 name_back name h some =
     let e = short name some in
-    ap (last_bytes 8) (short_code name e) ∙ bytes_back 8 name (short_name name e).few h (λ there. (short_name name e).first)
+    ap (last_bytes 16) (short_code name e) ∙ bytes_back 16 name (short_name name e).few h (λ there. (short_name name e).first)
 
 pub same_name : (xs ys : List ℕ) → AreBytes xs → AreBytes ys → code_of xs ≡ code_of ys → 0 < code_of ys → xs ≡ ys
 same_name xs ys hx hy e some =
@@ -325,12 +325,44 @@ code_pushed codes code h =
     let absent : list_any (nat_eq code) codes ≡ false = list_any_none (nat_eq code) codes (λ k d lt. ne_eqb code (get_or codes k d) (λ same. h k d lt (sym same))) in
     rw absent refl
 
-pub pushed_short : (short behind codes more : List ℕ) (code : ℕ) → short ++ behind ≡ codes → length behind ≡ 0
-    → All (λ c. c ≢ code) codes → more ≡ insert_key nat_eq short code → more ++ behind ≡ codes ++ code ∷ []
-pushed_short short [] codes more code same none h is =
-    let all : short ≡ codes = sym (append-nil short) ∙ same in
+-- a code behind those of at most eight bytes, where none is wide
+pub narrow_more : (narrow wide codes more : List ℕ) (code : ℕ) → narrow ++ wide ≡ codes → length wide ≡ 0
+    → All (λ c. c ≢ code) codes → more ≡ insert_key nat_eq narrow code → more ++ wide ≡ codes ++ code ∷ []
+narrow_more narrow [] codes more code same none h is =
+    let all : narrow ≡ codes = sym (append-nil narrow) ∙ same in
     append-nil more ∙ is ∙ ap (λ (cs : List ℕ). insert_key nat_eq cs code) all ∙ code_pushed codes code h
-pushed_short short (c ∷ behind) codes more code same none h is = absurd (omega (arith, none))
+narrow_more narrow (c ∷ wide) codes more code same none h is = absurd (omega (arith, none))
+
+-- a code behind wide ones
+pub wide_more : (narrow wide codes more : List ℕ) (code : ℕ) → narrow ++ wide ≡ codes
+    → All (λ c. c ≢ code) codes → more ≡ insert_key nat_eq wide code → narrow ++ more ≡ codes ++ code ∷ []
+wide_more narrow wide codes more code same h is =
+    let absent : All (λ c. c ≢ code) wide = λ k d lt equal.
+    let within : length narrow + k < length codes = omega (arith, lt, length-append narrow wide, ap length same) in
+    let here : get_or codes (length narrow + k) d ≡ get_or wide k d = ap (λ (cs : List ℕ). get_or cs (length narrow + k) d) (sym same) ∙ get_or-append-add narrow wide k d in
+    h (length narrow + k) d within (here ∙ equal) in
+    ap (λ (cs : List ℕ). narrow ++ cs) (is ∙ code_pushed wide code absent) ∙ sym (append_assoc narrow wide (code ∷ []))
+    ∙ ap (λ (cs : List ℕ). cs ++ code ∷ []) same
+
+-- the place of a code among the wide ones is behind the others
+pub found_behind : (narrow wide codes slice : List ℕ) (p code : ℕ) → narrow ++ wide ≡ codes → slice ≡ narrow
+    → get_or wide p 0 ≡ code → get_or codes (length slice + p) 0 ≡ code
+found_behind narrow wide codes slice p code same is here =
+    ap (λ (cs : List ℕ). get_or cs (length slice + p) 0) (sym same)
+    ∙ ap (λ (cs : List ℕ). get_or (narrow ++ wide) (length cs + p) 0) is ∙ get_or-append-add narrow wide p 0 ∙ here
+
+-- a code behind short ones, where none is behind those
+pub pushed_short : (short behind codes more : List ℕ) (code : ℕ) → short ++ behind ≡ codes → length behind ≡ 0
+    → more ≡ short ++ code ∷ [] → more ++ behind ≡ codes ++ code ∷ []
+pushed_short short [] codes more code same none is =
+    append-nil more ∙ is ∙ ap (λ (cs : List ℕ). cs ++ code ∷ []) (sym (append-nil short) ∙ same)
+pushed_short short (c ∷ behind) codes more code same none is = absurd (omega (arith, none))
+
+-- a code that is absent is none of the short ones
+pub absent_short : (short behind codes : List ℕ) (code : ℕ) → short ++ behind ≡ codes → length behind ≡ 0
+    → All (λ c. c ≢ code) codes → All (λ c. c ≢ code) short
+absent_short short [] codes code same none h = subst (λ (cs : List ℕ). All (λ c. c ≢ code) cs) (sym same ∙ append-nil short) h
+absent_short short (c ∷ behind) codes code same none h = absurd (omega (arith, none))
 
 -- a short name that is new has a new code
 pub fresh_code : (names : List (List ℕ)) (codes name : List ℕ) (code : ℕ) → HaveCodes names codes → code ≡ code_of name

@@ -1,15 +1,14 @@
 -- Short names that a text begins with.
-use Rattle.std.proofs.Common.{◌≡◌, ◌≢◌, ◌∙◌, ℕ, zero, suc, ◌+◌, ◌-◌, ◌*◌, ◌/◌, ◌%◌, ◌<◌, ◌≤◌, ◌^◌, List, [], ◌∷◌, ◌++◌}
+use Rattle.std.proofs.Common.{◌≡◌, ◌≢◌, ◌∙◌, ℕ, zero, suc, ◌+◌, ◌-◌, ◌*◌, ◌/◌, ◌<◌, ◌≤◌, ◌^◌, List, [], ◌∷◌, ◌++◌}
 use Rattle.std.proofs.Common.{length, take, drop, get_or, Bool, true, false, refl, sym, ap, ap₂, arith, subst, Option, Some, None}
 use Rattle.std.proofs.Common.{mul-le-mul_right}
-use Rattle.std.specs.Prelude.{IfSome, fold, nat_le}
-use Rattle.std.proofs.lemmas.Nat.{div-mul-add, mod-mul-add, pow-add, one_shl}
+use Rattle.std.specs.Prelude.{IfSome, fold}
+use Rattle.std.proofs.lemmas.Nat.{div-mul-add, pow-add}
 use Rattle.std.proofs.lemmas.Grind.{pow_more}
 use Rattle.std.proofs.lemmas.List.{length-take-le, length-drop, take-append-drop, drop_more, take_at}
-use Rattle.std.proofs.lemmas.Bool.{le-leb}
 use Rattle.std.proofs.Math.Seq.{take-add}
 use Rattle.std.proofs.lemmas.List.Elements.{All-head, All-tail, All-take, All-drop}
-use Rattle.std.proofs.lemmas.List.Sums.{fold-append, fold_more}
+use Rattle.std.proofs.lemmas.List.Sums.{fold-append}
 use Rattle.std.specs.Str.{bytes_eq}
 use Rattle.text_base.specs.Names.{is_name}
 use Rattle.mps_model.specs.Valid.{marker_word}
@@ -59,42 +58,56 @@ value_front front behind h =
     ∙ ap (λ (n : ℕ). (value front * 256 ^ length behind + value behind) / n) (pow_bits (length behind))
     ∙ div-mul-add (value front) (256 ^ length behind) (value behind) (value_below behind h)
 
--- the first bytes of a head
-head_front : (text : List ℕ) (head size : ℕ) → AreBytes text → 8 ≤ length text → head ≡ value (take 8 text) → size ≤ 8 → head / 2 ^ (64 - 8 * size) ≡ value (take size text)
-head_front text head size h long is few =
+-- the first bytes of the number of the first n
+head_front : (n : ℕ) (text : List ℕ) (head size : ℕ) → AreBytes text → n ≤ length text → head ≡ value (take n text) → size ≤ n → head / 2 ^ (8 * n - 8 * size) ≡ value (take size text)
+head_front n text head size h long is few =
     let front = take size text in
     let after = drop size text in
-    let behind = take (8 - size) after in
-    let eight : 8 ≡ size + (8 - size) = omega (arith, few) in
-    let parts : take 8 text ≡ front ++ behind = ap (λ (n : ℕ). take n text) eight ∙ take-add size (8 - size) text in
-    let bits : 64 - 8 * size ≡ 8 * length behind = omega (arith, few, long, length-drop size text, length-take-le (8 - size) after (omega (arith, few, long, length-drop size text))) in
-    let bytes : AreBytes behind = All-take (λ (c : ℕ). c < 256) (8 - size) after (All-drop (λ (c : ℕ). c < 256) size text h) in
-    ap (λ (n : ℕ). head / 2 ^ n) bits ∙ ap (λ (n : ℕ). n / 2 ^ (8 * length behind)) (is ∙ ap value parts)
+    let behind = take (n - size) after in
+    let all : n ≡ size + (n - size) = omega (arith, few) in
+    let parts : take n text ≡ front ++ behind = ap (λ (k : ℕ). take k text) all ∙ take-add size (n - size) text in
+    let bits : 8 * n - 8 * size ≡ 8 * length behind = omega (arith, few, long, length-drop size text, length-take-le (n - size) after (omega (arith, few, long, length-drop size text))) in
+    let bytes : AreBytes behind = All-take (λ (c : ℕ). c < 256) (n - size) after (All-drop (λ (c : ℕ). c < 256) size text h) in
+    ap (λ (k : ℕ). head / 2 ^ k) bits ∙ ap (λ (k : ℕ). k / 2 ^ (8 * length behind)) (is ∙ ap value parts)
     ∙ value_front front behind bytes
 
 -- the first byte of a text with a head
 first_byte : (text : List ℕ) (head : ℕ) → AreBytes text → 8 ≤ length text → head ≡ value (take 8 text) → head / 2 ^ 56 ≡ get_or text 0 0
 first_byte [] head h long is = absurd (omega (arith, long))
-first_byte (b ∷ text) head h long is = head_front (b ∷ text) head 1 h long is (omega arith) ∙ omega arith
+first_byte (b ∷ text) head h long is = head_front 8 (b ∷ text) head 1 h long is (omega arith) ∙ omega arith
+
+pub head_begins : (text : List ℕ) (head : ℕ) → AreBytes text → 8 ≤ length text → head ≡ value (take 8 text) → 0 < head / 2 ^ 56 → 0 < get_or text 0 0
+head_begins text head h long is first = omega (arith, first, first_byte text head h long is)
+
+-- the number of the first sixteen bytes
+pub both_heads : (text : List ℕ) (head tail : ℕ) → 8 ≤ length (drop 8 text) → head ≡ value (take 8 text) → tail ≡ value (take 8 (drop 8 text))
+    → head * 2 ^ 64 + tail ≡ value (take 16 text)
+both_heads text head tail long front behind =
+    let after = take 8 (drop 8 text) in
+    let size : length after ≡ 8 = length-take-le 8 (drop 8 text) long in
+    let parts : take 16 text ≡ take 8 text ++ after = take-add 8 8 text in
+    let whole : value (take 8 text ++ after) ≡ value (take 8 text) * 256 ^ length after + value after = fold-append with_byte 0 (take 8 text) after ∙ value_behind (value (take 8 text)) after in
+    let moved : value (take 8 text) * 256 ^ length after + value after ≡ value (take 8 text) * 2 ^ 64 + value after = ap (λ (k : ℕ). value (take 8 text) * 256 ^ k + value after) size in
+    ap₂ (λ (a b : ℕ). a * 2 ^ 64 + b) front behind ∙ sym (ap value parts ∙ whole ∙ moved)
 
 first_front : (text : List ℕ) (n : ℕ) → 0 < n → get_or (take n text) 0 0 ≡ get_or text 0 0
 first_front text zero some = absurd (omega (arith, some))
 first_front [] (suc n) some = refl
 first_front (b ∷ text) (suc n) some = refl
 
--- the name that a head begins with
-pub head_name : (text rest : List ℕ) (head size end code : ℕ) → AreBytes text → 8 ≤ length text
-    → head ≡ value (take 8 text) → 0 < size → size ≤ 8 → 0 < head / 2 ^ 56 → size < length text → get_or text size 0 ≡ end
-    → rest ≡ drop (size + 1) text → code ≡ head / 2 ^ (64 - 8 * size) → IsShort text end code rest
-head_name text rest head size end code h long is some few first within last after own =
+-- the name that the first n bytes begin with
+pub head_name : (n : ℕ) (text rest : List ℕ) (head size end code : ℕ) → AreBytes text → n ≤ length text → n ≤ 16
+    → head ≡ value (take n text) → 0 < size → size ≤ n → 0 < get_or text 0 0 → size < length text → get_or text size 0 ≡ end
+    → rest ≡ drop (size + 1) text → code ≡ head / 2 ^ (8 * n - 8 * size) → IsShort text end code rest
+head_name n text rest head size end code h long most is some few first within last after own =
     let small : length (take size text) ≡ size = length-take-le size text (omega (arith, within)) in
-    let begins : 0 < get_or (take size text) 0 0 = omega (arith, first, first_byte text head h long is, first_front text size some) in
-    let short = is_short_name (take size text) begins (omega (arith, small, few)) in
+    let begins : 0 < get_or (take size text) 0 0 = omega (arith, first, first_front text size some) in
+    let short = is_short_name (take size text) begins (omega (arith, small, few, most)) in
     record {
       name = take size text;
       parts = sym (take-append-drop size text) ∙ ap (λ (bs : List ℕ). take size text ++ bs) (drop_more text size 0 within ∙ ap₂ (λ (b : ℕ) (bs : List ℕ). b ∷ bs) last (sym after));
       short = short;
-      own = own ∙ head_front text head size h long is few ∙ sym (short_code (take size text) short);
+      own = own ∙ head_front n text head size h long is few ∙ sym (short_code (take size text) short);
     }
 
 -- ---- names that are known

@@ -13,9 +13,9 @@ with_byte code byte = code * 256 + byte
 abbrev pub bytes_code : List ℕ → ℕ
 bytes_code bytes = fold with_byte 0 bytes
 
--- one to eight bytes, the first of them not 0
+-- one to sixteen bytes, the first of them not 0
 abbrev pub is_short : List ℕ → Bool
-is_short name = nat_lt 0 (get_or name 0 0) && nat_le (length name) 8
+is_short name = nat_lt 0 (get_or name 0 0) && nat_le (length name) 16
 
 -- that of a short name; 0 of others
 unfoldable pub code_of : List ℕ → ℕ
@@ -29,7 +29,7 @@ last_bytes (suc n) code =
 
 -- the short name of this code
 unfoldable pub name_of : ℕ → List ℕ
-name_of code = last_bytes 8 code
+name_of code = last_bytes 16 code
 
 -- each is a byte
 abbrev pub AreBytes : List ℕ → Type 0

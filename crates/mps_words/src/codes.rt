@@ -1,14 +1,14 @@
 // Short names as numbers, so that a name is found without its hash or a look at other names' bytes.
-ghost use Rattle.std.specs.Prelude.{◌≡◌, ◌≢◌, ◌-◌, ◌<◌, ◌≤◌, ◌^◌, ◌++◌, ◌∷◌, [], None, All, OnOk, OnErr, IfOk, IfSome, fold, length, take, get_or, slice_get};
+ghost use Rattle.std.specs.Prelude.{◌≡◌, ◌≢◌, ◌-◌, ◌<◌, ◌≤◌, ◌^◌, ◌/◌, ◌++◌, ◌∷◌, [], None, All, OnOk, OnErr, IfOk, IfSome, fold, length, take, get_or, slice_get};
 ghost use Rattle.mps_words.specs.InsideCodes.{IsShort, bytes_code, code_of, is_short, name_of, with_byte};
 
 use crate::runs::Run;
-use indexmap::IndexSet;
+use crate::short_codes::ShortCodes;
 use std::alloc::{AllocError, Global};
 use std::marker::Model;
 
 /// A name of one to so many bytes is short where the first is not 0.
-const SHORT: usize = 8;
+const SHORT: usize = 16;
 
 /// Each byte is 1.
 pub(crate) const ONES: u64 = 0x0101_0101_0101_0101;
@@ -19,7 +19,7 @@ const EVEN_BYTES: u64 = 0x00ff_00ff_00ff_00ff;
 /// What a name is found by.
 #[derive(Clone, Copy)]
 pub struct Key {
-    pub code: u64,
+    pub code: u128,
     // the number at the end of a short name; any is right
     number: usize,
 }
@@ -28,9 +28,9 @@ pub struct Key {
 #[derive(Drop)]
 pub struct Codes {
     // those before the first long name
-    short: IndexSet<u64>,
+    short: ShortCodes,
     // those from it on
-    behind: Vec<u64>,
+    behind: Vec<u128>,
     // how far places lie above the numbers at the ends of names, modulo 2^64; any is right
     shift: usize,
     // some of them, which are found without a look at them
@@ -43,18 +43,24 @@ impl Model for Codes {
 
     ghost Value = { List ℕ };
 
-    ghost view = { λ c. c.short.keys ++ c.behind.items };
+    ghost view = { λ c. c.short ++ c.behind.items };
 
     ghost invariant = { λ c.
-        AreKept c.run c.behind.items (c.short.keys ++ c.behind.items) };
+        AreKept c.run c.behind.items (c.short ++ c.behind.items) };
 }
 
-// The number that the digits at the end of a short name spell; any is right.
+/// The last eight bytes of a short name.
 #[inline(always)]
-fn number_of(code: u64) -> usize {
-    let others = (code >> 6 | !(code >> 4)) & ONES;
+pub(crate) fn end_of(code: u128) -> u64 {
+    (code & 0xffff_ffff_ffff_ffff) as u64
+}
+
+// The number that the digits among these bytes at the end of a name spell; any is right.
+#[inline(always)]
+fn number_of(end: u64) -> usize {
+    let others = (end >> 6 | !(end >> 4)) & ONES;
     let behind = (others & others.wrapping_neg()).wrapping_sub(1);
-    let digits = code & behind & (15 * ONES);
+    let digits = end & behind & (15 * ONES);
     let pairs = (digits & EVEN_BYTES).wrapping_add((digits >> 8 & EVEN_BYTES).wrapping_mul(10));
     let fours = (pairs & 0xffff_0000_ffff).wrapping_add(
         (pairs >> 16 & 0xffff_0000_ffff).wrapping_mul(100),
@@ -75,16 +81,16 @@ fn is_short(name: &[u8]) -> bool
 
 // The key of a short name.
 fn short_key(name: &[u8]) -> Key
-    requires { length name.now ≤ 8 }
+    requires { length name.now ≤ 16 }
     ensures { result.code ≡ bytes_code name.now }
 {
     let mut code = 0;
     'bytes: for byte in name {
-        code = code * 256 + *byte as u64;
+        code = code * 256 + *byte as u128;
     }
     Key {
         code,
-        number: number_of(code),
+        number: number_of(end_of(code)),
     }
 }
 
@@ -102,7 +108,7 @@ impl Key {
 }
 
 /// The short name of a code.
-pub(crate) fn name_of(alloc: Global, code: u64) -> Result<Vec<u8>, AllocError>
+pub(crate) fn name_of(alloc: Global, code: u128) -> Result<Vec<u8>, AllocError>
     ensures { IfOk result (λ n. n.items ≡ name_of code) }
 {
     let mut bytes = [0; SHORT];
@@ -117,7 +123,7 @@ pub(crate) fn name_of(alloc: Global, code: u64) -> Result<Vec<u8>, AllocError>
 }
 
 /// What follows a short name of this code, where a text begins with that.
-pub(crate) fn after_code(text: &[u8], code: u64) -> Option<&[u8]>
+pub(crate) fn after_code(text: &[u8], code: u128) -> Option<&[u8]>
     ensures { IfSome result (λ rest. text.now ≡ name_of code ++ rest.now) }
 {
     if text.is_empty() || text[0] == 0 {
@@ -126,7 +132,7 @@ pub(crate) fn after_code(text: &[u8], code: u64) -> Option<&[u8]>
     let mut found = 0;
     let mut passed = 0;
     'bytes: while found < code && passed < SHORT && passed < text.len() {
-        found = found * 256 + text[passed] as u64;
+        found = found * 256 + text[passed] as u128;
         passed += 1;
     }
     if found != code {
@@ -161,6 +167,30 @@ fn size_before(head: u64, end: u8) -> usize
     (!(others | low) & (128 * ONES)).leading_zeros() as usize / 8
 }
 
+// The key of the name of nine to sixteen bytes that a text with this head begins with, before this
+// byte, and what follows that. None of some texts.
+#[inline]
+fn first_wide(text: &[u8], head: u64, end: u8) -> Option<(Key, &[u8])>
+    requires value { head ≡ fold with_byte 0 (take 8 text.now) }
+    requires first { 0 < head / 2 ^ 56 }
+    ensures { IfSome result (λ p. IsShort text.now end p.0.code p.1.now) }
+{
+    if text.len() < 8 {
+        return None;
+    }
+    let Some(tail) = head_of(text.split_at(8).1) else {
+        return None;
+    };
+    let count = 8 + size_before(tail, end);
+    if count >= text.len() || text[count] != end {
+        return None;
+    }
+    let both = head as u128 * 0x1_0000_0000_0000_0000 + tail as u128;
+    let code = both >> (128 - 8 * count);
+    let number = number_of(end_of(code));
+    Some((Key { code, number }, text.split_at(count + 1).1))
+}
+
 /// The key of the short name that a text begins with, before this byte, and what follows that.
 /// None of some texts.
 #[inline(always)]
@@ -175,17 +205,21 @@ pub(crate) fn first_short(text: &[u8], end: u8) -> Option<(Key, &[u8])>
         return None;
     }
     if size >= text.len() || text[size] != end {
-        return None;
+        return first_wide(text, head, end);
     }
     let code = head >> (64 - 8 * size);
     let number = number_of(code);
-    Some((Key { code, number }, text.split_at(size + 1).1))
+    let key = Key {
+        code: code as u128,
+        number,
+    };
+    Some((key, text.split_at(size + 1).1))
 }
 
 /// What follows a short name of this code and a space, where a text begins with them. None of some
 /// texts.
 #[inline(always)]
-pub(crate) fn after_code_word(text: &[u8], code: u64) -> Option<&[u8]>
+pub(crate) fn after_code_word(text: &[u8], code: u128) -> Option<&[u8]>
     ensures { IfSome result (λ rest. IsShort text.now 32 code rest.now) }
 {
     let Some((key, rest)) = first_short(text, b' ') else {
@@ -203,7 +237,7 @@ impl Codes {
         ensures { result ≡ [] }
     {
         Codes {
-            short: IndexSet::new(alloc),
+            short: ShortCodes::new(alloc),
             behind: Vec::new(alloc),
             shift: 0,
             run: Run::none(),
@@ -220,27 +254,25 @@ impl Codes {
 
     // The code at a place.
     #[inline(always)]
-    fn get(&self, place: usize) -> Option<u64>
+    fn get(&self, place: usize) -> Option<u128>
         ensures { result ≡ slice_get self.now place }
     {
-        let short = self.short.as_slice();
-        if place < short.len() {
-            return Some(short[place]);
+        match self.short.get(place) {
+            Some(code) => Some(code),
+            None => self.behind.get(place - self.short.len()).copied(),
         }
-        self.behind.get(place - short.len()).copied()
     }
 
-    /// All codes, where each is that of a short name.
-    pub(crate) fn all_short(&self) -> &[u64]
-        requires { All (λ c. 0 < c) self.now }
-        ensures { result.now ≡ self.now }
+    /// The code at a place, 0 where there is none.
+    pub(crate) fn code_at(&self, place: usize) -> u128
+        ensures { result ≡ get_or self.now place 0 }
     {
-        self.short.as_slice()
+        self.get(place).unwrap_or(0)
     }
 
     /// The last code.
     #[inline]
-    pub(crate) fn last(&self) -> Option<u64>
+    pub(crate) fn last(&self) -> Option<u128>
         ensures { result ≡ slice_get self.now (length self.now - 1) }
     {
         self.get(self.len().saturating_sub(1))
@@ -279,17 +311,17 @@ impl Codes {
     }
 
     /// The place of a code, where each is that of a short name.
-    pub(crate) fn look_up(&self, code: u64) -> Option<usize>
+    pub(crate) fn look_up(&self, code: u128) -> Option<usize>
         requires { All (λ c. 0 < c) self.now }
         ensures within { IfSome result (λ p. p < length self.now) }
         ensures found { IfSome result (λ p. get_or self.now p 0 ≡ code) }
         ensures absent { result ≡ None → All (λ c. c ≢ code) self.now }
     {
-        self.short.get_index_of(&code)
+        self.short.find(code)
     }
 
     // Puts a code behind the others. Want of memory changes no code.
-    fn push(&mut self, code: u64) -> Result<(), AllocError>
+    fn push(&mut self, code: u128) -> Result<(), AllocError>
         requires { 0 < code → All (λ c. c ≢ code) self.old }
         ensures more { OnOk result (self.new ≡ self.old ++ code ∷ []) }
         ensures same { OnErr result (self.new ≡ self.old) }

@@ -11,6 +11,7 @@ mod names;
 mod row_marks;
 mod runs;
 mod set_name;
+mod short_codes;
 mod words;
 
 pub use bound_words::{

@@ -121,13 +121,14 @@ pub(crate) fn add_to(
 }
 
 // The set of the names of these codes.
-fn set_of(alloc: Global, codes: &[u64]) -> Result<IndexSet<Vec<u8>>, AllocError>
+fn set_of(alloc: Global, codes: &Codes) -> Result<IndexSet<Vec<u8>>, AllocError>
     requires { AllPairs (λ m n. m ≢ n) (map name_of codes.now) }
     ensures { IfOk result (λ s. map (λ k. k.items) s.keys ≡ map name_of codes.now) }
 {
-    let mut names = IndexSet::with_capacity(alloc, codes.len())?;
-    'codes: for code in codes {
-        insert_new(&mut names, name_of(alloc, *code)?);
+    let count = codes.len();
+    let mut names = IndexSet::with_capacity(alloc, count)?;
+    'codes: for place in 0..count {
+        insert_new(&mut names, name_of(alloc, codes.code_at(place))?);
     }
     Ok(names)
 }
@@ -139,7 +140,6 @@ pub(crate) fn begun_with(
     key: Key,
     name: &[u8],
 ) -> Result<IndexSet<Vec<u8>>, AllocError>
-    requires short { All (λ c. 0 < c) codes.old }
     requires apart { AllPairs (λ m n. m ≢ n) (map name_of codes.old) }
     requires new { place_of (map name_of codes.old) name.now ≡ None }
     requires fresh { 0 < key.code → All (λ c. c ≢ key.code) codes.old }
@@ -148,7 +148,7 @@ pub(crate) fn begun_with(
     ensures codes { OnOk result (codes.new ≡ codes.old ++ key.code ∷ []) }
     ensures same { OnErr result (codes.new ≡ codes.old) }
 {
-    let mut names = set_of(alloc, codes.all_short())?;
+    let mut names = set_of(alloc, codes)?;
     add_to(&mut names, codes, alloc, key, name)?;
     Ok(names)
 }

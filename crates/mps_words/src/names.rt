@@ -16,7 +16,7 @@ use std::marker::Model;
 pub const MOST_NAMES: usize = 0x20_0000;
 
 // The code of the word `'MARKER'`.
-const MARKER: u64 = 0x274d_4152_4b45_5227;
+const MARKER: u128 = 0x274d_4152_4b45_5227;
 
 /// At most 2^21 different names, each with its place. As long as all are short, their codes alone
 /// are kept, and a name is found by its code; else by its bytes.

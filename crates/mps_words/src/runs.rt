@@ -2,7 +2,7 @@
 ghost use Rattle.std.specs.Prelude.{◌≡◌, ◌+◌, ◌<◌, ◌≤◌, ◌++◌, ◌∷◌, ◌==◌, ◌^◌, [], List, ℕ, IfSome, true, get_or, length};
 ghost use Rattle.mps_words.specs.InsideRuns.{IsRun, numbered};
 
-use crate::codes::ONES;
+use crate::codes::{ONES, end_of};
 
 // A run of fewer names gives way to a name that may begin another one.
 const LONG_RUN: usize = 16;
@@ -11,7 +11,7 @@ const LONG_RUN: usize = 16;
 #[derive(Clone, Copy)]
 pub struct Run {
     // the code of the prefix
-    prefix: u64,
+    prefix: u128,
     // the number of the first name
     first: usize,
     // the place of the first name
@@ -22,26 +22,27 @@ pub struct Run {
 
 // What stands before the digits at the end of a code; any is right.
 #[inline]
-fn prefix_of(code: u64) -> u64 {
-    let others = (code >> 6 | !(code >> 4)) & ONES;
+fn prefix_of(code: u128) -> u128 {
+    let end = end_of(code);
+    let others = (end >> 6 | !(end >> 4)) & ONES;
     code >> (others.trailing_zeros() % 64)
 }
 
 // Whether a code is that of a prefix and the digits of a number.
 #[inline]
-fn is_numbered(code: u64, prefix: u64, number: usize) -> bool
+fn is_numbered(code: u128, prefix: u128, number: usize) -> bool
     ensures { result ≡ (code == numbered prefix number) }
 {
     let mut front = code;
     let mut left = number as u64;
     'digits: while left > 9 {
-        if front % 256 != 48 + left % 10 {
+        if front % 256 != (48 + left % 10) as u128 {
             return false;
         }
         front /= 256;
         left /= 10;
     }
-    front % 256 == 48 + left && front / 256 == prefix
+    front % 256 == (48 + left) as u128 && front / 256 == prefix
 }
 
 impl Run {
@@ -59,7 +60,7 @@ impl Run {
 
     /// The place of a code, where that is one of the run.
     #[inline(always)]
-    pub(crate) fn find(self, code: u64, number: usize) -> Option<usize>
+    pub(crate) fn find(self, code: u128, number: usize) -> Option<usize>
         requires { self.start + self.count < 2 ^ 64 }
         ensures within { (codes : List ℕ) → IsRun self codes
             → IfSome result (λ p. p < length codes) }
@@ -77,7 +78,7 @@ impl Run {
 
     // Whether a name that comes at a place goes on with the run.
     #[inline]
-    fn is_next(self, code: u64, number: usize, place: usize) -> bool
+    fn is_next(self, code: u128, number: usize, place: usize) -> bool
         requires { self.start + self.count ≤ place }
         ensures place { result ≡ true → place ≡ self.start + self.count }
         ensures name { result ≡ true → code ≡ numbered self.prefix (self.first + self.count) }
@@ -92,7 +93,7 @@ impl Run {
     }
 
     /// The run behind one more name, which comes at a place behind it.
-    pub(crate) fn with_name(self, code: u64, number: usize, place: usize) -> Run
+    pub(crate) fn with_name(self, code: u128, number: usize, place: usize) -> Run
         requires { self.start + self.count ≤ place }
         ensures { (codes : List ℕ) → length codes ≡ place → IsRun self codes
             → IsRun result (codes ++ code ∷ []) }

@@ -6,10 +6,10 @@ use Rattle.mps_words.proofs.codes.after_code.Given as goal
 abbrev pub invariant-bytes : goal.invariant-bytes
 invariant-bytes l = record {
   within : l.passed ≤ length l.text;
-  few : l.passed ≤ 8;
+  few : l.passed ≤ 16;
   found : l.found ≡ bytes_code (take l.passed l.text);
   small : l.found < 256 ^ l.passed;
 }
 
 abbrev pub decreases-bytes : goal.decreases-bytes
-decreases-bytes l = 8 - l.passed
+decreases-bytes l = 16 - l.passed

@@ -15,7 +15,7 @@ pub returns : goal.returns
 unfolding name_of
 returns c =
     let done : (c.bytes.place ≡ 0) ⊎ (c.bytes.left ≤ 0) = elim c.bytes-test.branch [ then-bytes-test+else-left-gt0 w ↦ inr (omega arith) | else-bytes-test w ↦ inl (omega arith) ] in
-    let all : drop c.bytes.place c.bytes.bytes ≡ last_bytes 8 c.args.code =
+    let all : drop c.bytes.place c.bytes.bytes ≡ last_bytes 16 c.args.code =
     sym (ap (λ (bs : List ℕ). bs ++ drop c.bytes.place c.bytes.bytes) (all_written c.bytes.place c.bytes.left done))
     ∙ c.bytes.invariant.same in
     subst (λ (bs : List ℕ). IfOk c.from_slice.result (λ n. n.items ≡ bs)) (c.split_at.ensures.back ∙ all) c.from_slice.ensures.items

@@ -1,7 +1,7 @@
 use Rattle.std.proofs.Common.{◌≡◌, List, None, ℕ, ap, map, option_map, sym, subst}
 use Rattle.mps_words.specs.InsideCodes.{name_of}
 use Rattle.text_base.proofs.NamePlaces.{texts_of}
-use Rattle.mps_words.proofs.CodeLemmas.{are_bytes, all_some, fresh_code}
+use Rattle.mps_words.proofs.CodeLemmas.{are_bytes, fresh_code}
 use Rattle.mps_words.proofs.KeptNames.{IsNew, as_seen, set_kept, set_seen, codes_seen, codes_kept, begun, set_more, codes_more, seen_more}
 use Rattle.mps_words.proofs.names.Names.add.Goals.{After-of-key, In-None}
 use Rattle.mps_words.proofs.names.Names.add.Goals as goal
@@ -60,6 +60,3 @@ add-requires c =
     fresh_code c.args.self.now c.self.inside.codes c.args.name.now c.of-key.result.code
     (as_seen _ c.self.inside.codes _ c.self.invariant c.self.view_is) c.of-key.ensures
     (are_bytes c.args.name.now c.type_inv.name) c.requires.new
-
-pub begun_with-requires-clause-short : goal.begun_with-requires-clause-short
-begun_with-requires-clause-short c = all_some c.self.inside.codes (codes_kept _ c.self.inside.codes (none (goal.at.begun_with-requires-clause-short c).In-None) c.self.invariant)
