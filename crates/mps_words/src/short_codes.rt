@@ -99,6 +99,7 @@ impl ShortCodes {
         let Some(place) = wide_place(&self.wide, code) else {
             return None;
         };
+        // for the prover alone: how many there may be
         let _wide = self.wide.as_slice();
         Some(self.narrow.as_slice().len() + place)
     }
