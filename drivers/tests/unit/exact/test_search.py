@@ -5,7 +5,7 @@ from __future__ import annotations
 import contextlib
 import itertools
 from fractions import Fraction
-from typing import Callable, Optional, Sequence, Set, Union
+from typing import Callable, Iterable, Optional, Sequence, Set, Union
 from unittest import mock
 
 import pytest
@@ -113,9 +113,9 @@ def test_trees(p: IntegerProgram) -> None:
         assert value == value_of(p)
 
 
-def is_bound(p: IntegerProgram, value: Fraction, lines: object) -> bool:
+def is_bound(p: IntegerProgram, value: Fraction, lines: Iterable[str]) -> bool:
     head = ["certificate 1", f"bound 0 {p.sign * value}"]
-    return Judge(p)([*head, *lines]).is_proved  # type: ignore[misc]
+    return Judge(p)([*head, *lines]).is_proved
 
 
 @pytest.mark.parametrize("p", [KNAPSACK, EQUATION, COVER, KNAPSACKS])
@@ -131,7 +131,8 @@ def test_pauses(p: IntegerProgram) -> None:
             found = paused.run()
             break
         assert paused.dual_bound <= float(value) + 1e-6
-    assert found == at_once and is_well_formed(found.tree)  # type: ignore[union-attr]
+    assert found == at_once and not isinstance(at_once, ImprovedIncumbent)
+    assert is_well_formed(at_once.tree)
 
 
 @pytest.mark.parametrize("p", [EQUATION, COVER, KNAPSACKS])
