@@ -14,12 +14,17 @@ from pathlib import Path
 from typing import Iterator
 
 import pytest
+from hypothesis import HealthCheck, settings
 
 from running.places import installed_solvers, program, why_missing
 from running.workspace import Workspace
 
 SECONDS_OF_A_TEST = 900.0  # on a machine that has much else to do
 TRIED_SIGNALS = (signal.SIGHUP, signal.SIGQUIT, signal.SIGTERM)
+
+# no deadline for one example: machines are shared, and time is tested by itself
+settings.register_profile("shared", deadline=None, suppress_health_check=[HealthCheck.too_slow])
+settings.load_profile("shared")
 
 
 @pytest.hookimpl(tryfirst=True)

@@ -11,7 +11,7 @@ import functools
 import heapq
 import math
 import random
-from typing import Any, Callable, Dict, Iterable, List, Mapping, Optional, Sequence, Tuple
+from typing import Callable, Dict, Iterable, List, Mapping, Optional, Sequence, Tuple
 
 from builders.nl_text import BINARY, Bound, Column, Number, Objective, Row, nl_text, real, whole
 
@@ -487,36 +487,37 @@ FAMILIES: Dict[str, Callable[[int, random.Random], bytes]] = {
     "cfl": lambda size, rnd: location(size // 3, size, rnd, has_room=True),
 }
 DEPOTS = functools.partial(location, has_room=True)
-SEEDED: Mapping[str, Tuple[Any, ...]] = {
-    "gap-4-20": (assigned, 4, 20),
-    "gap-5-30": (assigned, 5, 30),
-    "knaps-50": (near_values, 50, 0),
-    "knaps-100": (near_values, 100, 0),
-    "knap-50": (near_values, 50, 100),
-    "knap-100": (near_values, 100, 100),
-    "knap-200": (near_values, 200, 100),
-    "mknap-30": (knapsacks, 30),
-    "mknap-50": (knapsacks, 50),
-    "sched-6": (one_machine, 6),
-    "sched-8": (one_machine, 8),
-    "col-12-6": (colouring, 12, 6),
-    "col-18-7": (colouring, 18, 7),
-    "ufl-8-20": (location, 8, 20),
-    "ufl-12-30": (location, 12, 30),
-    "cut-5": (cutting, 5),
-    "cut-8": (cutting, 8),
-    "cov-60-120": (covers, 60, 120),
-    "cov-100-200": (covers, 100, 200),
-    "binp-12": (packed, 12),
-    "cfl-8-20": (DEPOTS, 8, 20),
-    "cfl-15-30": (DEPOTS, 15, 30),
-    "lot-3-10": (shared_lots, 3, 10),
-    "lot-5-12": (shared_lots, 5, 12),
-    "fix-5-8": (charges, 5, 8),
-    "fix-8-12": (charges, 8, 12),
-    "job-4-3": (job_shop, 4, 3),
-    "job-5-4": (job_shop, 5, 4),
-    "job-6-4": (job_shop, 6, 4),
+Seeded = Tuple[Callable[..., bytes], Tuple[int, ...]]  # of sizes and a seed
+SEEDED: Mapping[str, Seeded] = {
+    "gap-4-20": (assigned, (4, 20)),
+    "gap-5-30": (assigned, (5, 30)),
+    "knaps-50": (near_values, (50, 0)),
+    "knaps-100": (near_values, (100, 0)),
+    "knap-50": (near_values, (50, 100)),
+    "knap-100": (near_values, (100, 100)),
+    "knap-200": (near_values, (200, 100)),
+    "mknap-30": (knapsacks, (30,)),
+    "mknap-50": (knapsacks, (50,)),
+    "sched-6": (one_machine, (6,)),
+    "sched-8": (one_machine, (8,)),
+    "col-12-6": (colouring, (12, 6)),
+    "col-18-7": (colouring, (18, 7)),
+    "ufl-8-20": (location, (8, 20)),
+    "ufl-12-30": (location, (12, 30)),
+    "cut-5": (cutting, (5,)),
+    "cut-8": (cutting, (8,)),
+    "cov-60-120": (covers, (60, 120)),
+    "cov-100-200": (covers, (100, 200)),
+    "binp-12": (packed, (12,)),
+    "cfl-8-20": (DEPOTS, (8, 20)),
+    "cfl-15-30": (DEPOTS, (15, 30)),
+    "lot-3-10": (shared_lots, (3, 10)),
+    "lot-5-12": (shared_lots, (5, 12)),
+    "fix-5-8": (charges, (5, 8)),
+    "fix-8-12": (charges, (8, 12)),
+    "job-4-3": (job_shop, (4, 3)),
+    "job-5-4": (job_shop, (5, 4)),
+    "job-6-4": (job_shop, (6, 4)),
 }
 
 
@@ -529,5 +530,5 @@ def seeded_models(seed: str) -> Dict[str, bytes]:
     """By name, the .nl files of the models of a seed."""
     return {
         name + seed: make(*sizes, random.Random(name + seed))
-        for name, (make, *sizes) in SEEDED.items()
+        for name, (make, sizes) in SEEDED.items()
     }

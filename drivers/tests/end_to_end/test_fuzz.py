@@ -3,7 +3,7 @@
 from __future__ import annotations
 
 from pathlib import Path
-from typing import Any, Callable
+from typing import Callable, Union
 
 import bridge_drivers
 import pytest
@@ -67,7 +67,7 @@ def test_what_is_planted_is_found(
     monkeypatch: pytest.MonkeyPatch,
     place: str,
     call: str,
-    planted: Any,
+    planted: Union[Callable[..., Report], Callable[..., int]],
     told: str,
 ) -> None:
     """By one call of a case; a seed decides the files."""

@@ -9,7 +9,7 @@ import json
 import re
 from dataclasses import dataclass, field
 from pathlib import Path
-from typing import Any, Dict, List, Mapping, Union
+from typing import Dict, List, Mapping, Union
 
 from running.places import DATA
 
@@ -79,15 +79,18 @@ class StoredRun:
         return changed
 
     def _replace(self, pattern: str, text: str) -> bool:
-        parts: List[Dict[str, Any]] = [dict(self.files), dict(self.logs)]
-        for part, own in zip(parts, (self.files, self.logs)):
-            for name, content in part.items():
-                is_text = isinstance(content, list)
-                old = "\n".join(content) if is_text else content
-                new, count = re.subn(pattern, lambda found: text, old, count=1)
-                if count:
-                    own[name] = new.split("\n") if is_text else new  # type: ignore[index]
-                    return True
+        for name, content in self.files.items():
+            is_text = isinstance(content, list)
+            old = content if isinstance(content, str) else "\n".join(content)
+            new, count = re.subn(pattern, lambda found: text, old, count=1)
+            if count:
+                self.files[name] = new.split("\n") if is_text else new
+                return True
+        for name, lines in self.logs.items():
+            new, count = re.subn(pattern, lambda found: text, "\n".join(lines), count=1)
+            if count:
+                self.logs[name] = new.split("\n")
+                return True
         return False
 
     def write_false_solver(self, folder: Path, name: str) -> Path:

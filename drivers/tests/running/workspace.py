@@ -12,7 +12,7 @@ import subprocess
 import sys
 from dataclasses import dataclass, field
 from pathlib import Path
-from typing import Any, Dict, Mapping, NamedTuple, Optional, Sequence, Set, Union
+from typing import IO, Any, Dict, Mapping, NamedTuple, Optional, Sequence, Set, Union
 
 from builders.small_models import MODELS
 from running.places import BIN, DRIVERS, TESTS, program
@@ -205,7 +205,7 @@ class Workspace:
         self,
         argv: Sequence[str],
         environment: Optional[Mapping[str, str]] = None,
-        stdin: Any = subprocess.DEVNULL,
+        stdin: Union[int, IO[bytes]] = subprocess.DEVNULL,
     ) -> Ended:
         """Runs any program in the folder."""
         done = subprocess.run(

@@ -84,6 +84,10 @@ EQUATION = program(
     [Column(0, 99, is_integer=True, cost=1) for _ in range(3)],
     [Row(1000, 1000, {0: 37, 1: 53, 2: 111})],
 )  # 14
+SHORT_EQUATION = program(
+    [Column(0, 9, is_integer=True, cost=1) for _ in range(3)],
+    [Row(150, 150, {0: 13, 1: 19, 2: 37})],
+)  # 6
 COVER = program(
     [Column(0, 1, is_integer=True, cost=cost) for cost in COVER_COSTS],
     [

@@ -5,8 +5,12 @@ from __future__ import annotations
 import sys
 from pathlib import Path
 from types import ModuleType
+from typing import TYPE_CHECKING
 
 import pytest
+
+if TYPE_CHECKING:
+    from signatures import Function
 
 HERE = Path(__file__).resolve().parent
 DEV = HERE.parents[2] / "dev"
@@ -28,10 +32,10 @@ calls = script("calls")
 signatures = script("signatures")
 
 
-def told(function: object) -> tuple[str, str, str, str]:
+def told(function: Function) -> tuple[str, str, str, str]:
     """The type and the name of a function, what it answers, its clauses and the first words of its comment."""
-    clauses = " ".join(f"{it.keyword}:{it.label}" for it in function.clauses)  # type: ignore[attr-defined]
-    return function.kind, function.name, function.result, clauses  # type: ignore[attr-defined]
+    clauses = " ".join(f"{it.keyword}:{it.label}" for it in function.clauses)
+    return function.kind, function.name, function.result, clauses
 
 
 def test_each_public_function_of_a_hard_text_is_read() -> None:

@@ -3,7 +3,7 @@
 from __future__ import annotations
 
 import math
-from typing import Any
+from typing import List, Mapping, Sequence, Union
 
 import numpy
 import pytest
@@ -16,19 +16,41 @@ from bridge_drivers.model.linear_program import LinearProgram
 ROWS = [[6.0, 5.0, 8.0], [0.0, 1.0, -0.1]]
 
 
-def program(**changes: Any) -> Any:
-    given = {"row_upper": [14, 3], "integer": True, "upper": 1, "maximise": True, **changes}
-    return LinearProgram.of_named(model_of_arrays([10, 7, 12], ROWS, **given))
+Numbers = Union[float, Sequence[float]]  # one for all, or one for each
+
+
+def program(
+    constant: float = 0.0,
+    /,
+    *,
+    row_lower: Numbers = -math.inf,
+    row_upper: Numbers = (14, 3),
+    lower: Numbers = 0.0,
+    upper: Numbers = 1,
+) -> LinearProgram:
+    """Three binary columns and two rows, of which the sides, the bounds and the constant differ."""
+    text = model_of_arrays(
+        [10, 7, 12],
+        ROWS,
+        row_lower,
+        row_upper,
+        lower=lower,
+        upper=upper,
+        integer=True,
+        maximise=True,
+        constant=constant,
+    )
+    return LinearProgram.of_named(text)
 
 
 def test_numbers() -> None:
-    found = program(constant=2.5, row_lower=[-math.inf, 1.1])
+    found = program(2.5, row_lower=[-math.inf, 1.1])
     assert (found.maximise, found.objective_rhs, found.integer_count) == (True, "-2.5", 3)
     assert found.costs.values.tolist() == [10.0, 7.0, 12.0]
     assert found.row_lower.tolist() == [-math.inf, 1.1]
     assert found.row_upper.tolist() == [14.0, 3.0]
     assert (found.lower.tolist(), found.upper.tolist()) == ([0.0] * 3, [1.0] * 3)
-    assert list(found.matrix.activities([1.0, 1.0, 1.0])) == [19.0, 0.9]
+    assert found.matrix.activities_in_doubles([1.0, 1.0, 1.0]) == [19.0, 0.9]
 
 
 def test_a_sparse_matrix_is_the_same() -> None:
@@ -61,7 +83,7 @@ def test_no_rows() -> None:
         {"row_lower": [-1e300, 0]},  # a decimal of its distance to 14 has 300 digits
     ],
 )
-def test_what_does_not_fit(changes: Any) -> None:
+def test_what_does_not_fit(changes: Mapping[str, Numbers]) -> None:
     with pytest.raises(ValueError):
         program(**changes)
 
@@ -70,7 +92,7 @@ FINITE = st.floats(allow_nan=False, allow_infinity=False, min_value=-1e30, max_v
 
 
 @given(st.lists(FINITE, min_size=1, max_size=4))
-def test_costs_are_the_same_doubles(costs: Any) -> None:
+def test_costs_are_the_same_doubles(costs: List[float]) -> None:
     found = LinearProgram.of_named(model_of_arrays(costs))
     known = {column: float(text) for column, text in found.cost_texts.items()}
     assert [known.get(column, 0.0) for column in range(len(costs))] == costs

@@ -12,12 +12,14 @@ pulp = pytest.importorskip("pulp")
 
 from bridge_drivers import WrongOption, pulp_solver  # noqa: E402
 
+Problem = Any  # PuLP has no types
+Expression = Any
 TEXT = (
     "*SENSE:Maximize\nNAME          MODEL\n{}ROWS\n N  OBJ\nCOLUMNS\nRHS\n{}BOUNDS\nENDATA\n"
 ).format
 
 
-def problem_of(objective: Any, *constraints: Any) -> Any:
+def problem_of(objective: Expression, *constraints: Expression) -> Problem:
     problem = pulp.LpProblem("p", pulp.LpMinimize)
     for part in (objective, *constraints):
         problem += part

@@ -5,6 +5,7 @@ from __future__ import annotations
 import json
 from fractions import Fraction
 from pathlib import Path
+from typing import Mapping
 
 import pytest
 
@@ -12,6 +13,7 @@ from bridge_drivers import ExactNumbers, ModelRefused, Report, WrongOption, solv
 from bridge_drivers.pipeline.report import ReportedCall, number_object
 from bridge_drivers.program.verdict import statement_of
 
+F = Fraction
 SCHEMA = json.loads((Path(__file__).parents[3] / "report.schema.json").read_text("ascii"))
 
 
@@ -23,7 +25,8 @@ def test_numbers() -> None:
 
 def test_values_are_fractions() -> None:
     values = ExactNumbers([("a", "0.1"), ("b", "1e-400"), ("c", "2")])
-    assert values == {"a": Fraction(1, 10), "b": Fraction(1, 10**400), "c": Fraction(2)}
+    exact: Mapping[str, Fraction] = {"a": F(1, 10), "b": F(1, 10**400), "c": F(2)}
+    assert values == exact
     assert [str(value) for value in values.values()] == ["1/10", str(Fraction(1, 10**400)), "2"]
     assert dict(values.texts) == {"a": "0.1", "b": "1e-400", "c": "2"}
     assert values.doubles() == {"a": 0.1, "b": 0.0, "c": 2.0}
@@ -63,7 +66,7 @@ def test_an_error_has_the_report() -> None:
 
 def test_a_wrong_option_is_told_before_anything_is_read() -> None:
     with pytest.raises(WrongOption) as caught:
-        solve("/nonexistent", "cbc", prove=2)  # type: ignore[arg-type]
+        solve("/nonexistent", "cbc", prove=2)  # type: ignore[arg-type]  # what is asked of it here
     assert (caught.value.code, caught.value.status) == (502, 3)
     with pytest.raises(WrongOption, match="no driver of nosuch: cbc, "):
         solve("/nonexistent", "nosuch")

@@ -152,10 +152,9 @@ def test_progress_in_place_or_by_lines(stream: Callable[[], io.StringIO], in_pla
     shown = stream()
     progress = Progress()
     progress.begin("cbc")
-    seconds = {"FIRST_SECONDS": 0.001, "EVERY_SECONDS": 0.001, "LINE_SECONDS": 0.001}
-    with mock.patch.multiple(console_module, **seconds), mock.patch.object(
-        time, "monotonic", return_value=progress.began
-    ):
+    with mock.patch.multiple(
+        console_module, FIRST_SECONDS=0.001, EVERY_SECONDS=0.001, LINE_SECONDS=0.001
+    ), mock.patch.object(time, "monotonic", return_value=progress.began):
         line = ProgressLine(shown, "bridge-cbc", progress, in_place=in_place)
         line.start()
         end = time.perf_counter() + SECONDS

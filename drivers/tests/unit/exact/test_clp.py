@@ -50,7 +50,8 @@ class InterruptedLibrary:
         self.solves = 0
 
     def __getattr__(self, name: str) -> Callable[..., object]:
-        return getattr(self.library, name)  # type: ignore[no-any-return]
+        call: Callable[..., object] = getattr(self.library, name)
+        return call
 
     def Clp_dual(self, model: object, passes: int) -> int:
         self.solves += 1

@@ -207,6 +207,7 @@ def test_no_processes() -> None:
 class Unreachable(Executor):
     """Takes no unit."""
 
+    # whatever it is: Executor.submit names its parts
     def submit(self, *args: object, **keywords: object) -> Future[object]:  # type: ignore[override]
         raise ConnectionError("the scheduler is gone")
 

@@ -5,7 +5,7 @@ from __future__ import annotations
 import math
 from fractions import Fraction
 from types import SimpleNamespace
-from typing import Optional
+from typing import Iterable, Optional, cast
 
 import pytest
 from hypothesis import given, settings
@@ -16,6 +16,7 @@ from bridge_drivers.exact.cuts import CutKind, ObjectiveCutoff
 from bridge_drivers.exact.fathoming import Cutoff
 from bridge_drivers.exact.parallel import ParallelSearch
 from bridge_drivers.exact.node import Branch
+from bridge_drivers.exact.parallel import ParallelSearch
 from bridge_drivers.exact.portfolio import TURN_SECONDS, Portfolio
 from bridge_drivers.exact.search import (
     BranchAndBound,
@@ -31,14 +32,15 @@ from bridge_drivers.system.errors import NodeLimit, SearchEnded
 from integer_programs import COVER, KNAPSACK, KNAPSACKS, LOTS, PIGEONS, boxed_programs, optimum_of
 from integer_programs import points_of
 from judging import Judge
-from programs import Column, Row, program
+from programs import Column, Number, Row, program
 
 NEEDS_CLP = pytest.mark.skipif(library() is None, reason="CLP's library is not there")
 
 
 def strategy_with(search: object, name: str = "", spent: float = 0.0) -> Strategy:
     objective = ObjectiveCutoff(KNAPSACK, Fraction(-17), None)
-    return Strategy(name, [], [], search, objective, spent)  # type: ignore[arg-type]
+    found = cast(ParallelSearch, search)  # it has those methods alone that a test calls
+    return Strategy(name, [], [], found, objective, spent)
 
 
 def strategy_of(share: float, spent: float) -> Strategy:
@@ -265,8 +267,8 @@ def test_cliques_refute_pigeons() -> None:
         (("0.5", "0.25"), -3.01, Fraction(-3)),
     ],
 )
-def test_bounds_in_few_digits(costs: tuple[object, ...], bound: float, wanted: Fraction) -> None:
-    columns = [Column(0, 10, is_integer=True, cost=cost) for cost in costs]  # type: ignore[arg-type]
+def test_bounds_in_few_digits(costs: tuple[Number, ...], bound: float, wanted: Fraction) -> None:
+    columns = [Column(0, 10, is_integer=True, cost=cost) for cost in costs]
     p = program(columns, [Row(None, 3, {0: 1, 1: 1})], "max")
     value: Optional[Fraction] = Fraction(-9) if costs[0] == 3 else Fraction(-1)
     assert Portfolio(p, value, no_point, SearchDeadline()).rounded_bound(bound) == wanted
@@ -278,9 +280,9 @@ def minimised_optimum(p: IntegerProgram) -> Fraction:
     return p.sign * best
 
 
-def is_bound(p: IntegerProgram, value: Fraction, lines: object) -> bool:
+def is_bound(p: IntegerProgram, value: Fraction, lines: Iterable[str]) -> bool:
     head = ["certificate 1", f"bound 0 {p.sign * value}"]
-    return Judge(p)([*head, *lines]).is_proved  # type: ignore[misc]
+    return Judge(p)([*head, *lines]).is_proved
 
 
 @NEEDS_CLP

@@ -3,7 +3,7 @@
 from __future__ import annotations
 
 from fractions import Fraction
-from typing import Iterator, List, Mapping, Sequence
+from typing import Iterator, List, Mapping, Sequence, TypeVar, Union, overload
 
 import pytest
 from bridge_drivers.exact import leaf_proofs
@@ -26,11 +26,13 @@ from programs import Column, Row, program
 
 MANY = 4 * STEPS_BETWEEN_CHECKS  # steps of a loop that is to be ended
 
+Number = TypeVar("Number", bound=float)
 
-class Counted(Sequence[float]):
+
+class Counted(Sequence[Number]):
     """Numbers that count how many of them were taken, and end exact work at one of them."""
 
-    def __init__(self, values: Sequence[float], ends_at: int = 0) -> None:
+    def __init__(self, values: Sequence[Number], ends_at: int = 0) -> None:
         self.values = values
         self.ends_at = ends_at
         self.taken = 0
@@ -38,10 +40,18 @@ class Counted(Sequence[float]):
     def __len__(self) -> int:
         return len(self.values)
 
-    def __getitem__(self, place):  # type: ignore[no-untyped-def]
+    @overload
+    def __getitem__(self, place: int) -> Number:
+        ...
+
+    @overload
+    def __getitem__(self, place: slice) -> Sequence[Number]:
+        ...
+
+    def __getitem__(self, place: Union[int, slice]) -> Union[Number, Sequence[Number]]:
         return self.values[place]
 
-    def __iter__(self) -> Iterator[float]:
+    def __iter__(self) -> Iterator[Number]:
         for value in self.values:
             if self.taken == self.ends_at:
                 limit_work(Deadline(-1.0))
@@ -114,7 +124,7 @@ def test_equations_that_are_taken() -> None:
 def test_fractions_near_digits() -> None:
     values = Counted([1 << 40] * MANY)
     with pytest.raises(TimeOver):
-        reconstructed(values, 64, 2)  # type: ignore[arg-type]
+        reconstructed(values, 64, 2)
     assert values.taken <= STEPS_BETWEEN_CHECKS
 
 

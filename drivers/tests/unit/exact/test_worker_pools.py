@@ -4,8 +4,8 @@ from __future__ import annotations
 
 import sys
 import threading
-from types import SimpleNamespace
-from typing import Any, Callable, Dict, Mapping
+from types import ModuleType, SimpleNamespace
+from typing import Callable, Dict, Mapping, NoReturn, cast
 
 import pytest
 from bridge_drivers.exact.worker_pools import (
@@ -23,29 +23,29 @@ LONG = 60.0  # and something that answers at once
 ADDRESS = "tcp://127.0.0.1:9"
 
 
-def never(*words: object, **options: object) -> Any:
+def never(*words: object, **options: object) -> object:
     """What a stopped process answers."""
-    threading.Event().wait()
+    return threading.Event().wait()
 
 
-def raises(fault: Exception) -> Callable[..., Any]:
-    def ask(*words: object, **options: object) -> Any:
+def raises(fault: Exception) -> Callable[..., NoReturn]:
+    def ask(*words: object, **options: object) -> NoReturn:
         raise fault
 
     return ask
 
 
-def false_cluster(monkeypatch: pytest.MonkeyPatch, **calls: Callable[..., Any]) -> None:
+def false_cluster(monkeypatch: pytest.MonkeyPatch, **calls: Callable[..., object]) -> None:
     """Dask's package, whose client has these calls."""
 
-    def client(address: str, timeout: float) -> Any:
+    def client(address: str, timeout: float) -> SimpleNamespace:
         if "connect" in calls:
             calls["connect"](address)
-        return SimpleNamespace(**{"close": lambda: None, **calls})
+        answers: Dict[str, Callable[..., object]] = {"close": lambda: None, **calls}
+        return SimpleNamespace(**answers)
 
-    modules: Dict[str, Any] = {"distributed": SimpleNamespace(Client=client)}
-    for name, module in modules.items():
-        monkeypatch.setitem(sys.modules, name, module)
+    package = cast(ModuleType, SimpleNamespace(Client=client))
+    monkeypatch.setitem(sys.modules, "distributed", package)
 
 
 @pytest.mark.parametrize(
@@ -63,7 +63,7 @@ def false_cluster(monkeypatch: pytest.MonkeyPatch, **calls: Callable[..., Any]) 
     ],
 )
 def test_a_cluster_that_cannot_be_had(
-    monkeypatch: pytest.MonkeyPatch, calls: Mapping[str, Callable[..., Any]], told: str
+    monkeypatch: pytest.MonkeyPatch, calls: Mapping[str, Callable[..., object]], told: str
 ) -> None:
     """The pool has no workers, and says why; nothing waits for what does not answer."""
     false_cluster(monkeypatch, **calls)

@@ -4,6 +4,7 @@ from __future__ import annotations
 
 import struct
 from pathlib import Path
+from typing import List
 
 import pytest
 from hypothesis import given
@@ -13,22 +14,24 @@ from bridge_drivers.formats.binary_nl import text_of_binary
 from timing import assert_linear
 
 PAIRS = sorted((Path(__file__).parents[2] / "data" / "binary").glob("*.bin.nl"))
+NAMES = [path.name for path in PAIRS]
 HEAD = b"b3 1 1 0\n %d 0 0 0 0\n 0 0\n 0 0\n 0 0 0\n 0 0 %d 1\n 0 0 0 0 0\n 0 0\n 0 0\n 0 0 0 0 0\n"
 
 
-def lines_of(data: bytes) -> list:
+def lines_of(data: bytes) -> List[str]:
     """Those below the head."""
     return text_of_binary(data).decode().split("\n")[10:-1]
 
 
-@pytest.mark.parametrize("path", PAIRS, ids=lambda path: path.name)
+@pytest.mark.parametrize("path", PAIRS, ids=NAMES)
 def test_against_the_text_that_ampl_wrote(path: Path) -> None:
     expected = path.with_name(path.name.replace(".bin.", ".text."))
     assert text_of_binary(path.read_bytes()) == expected.read_bytes()
 
 
-@pytest.mark.parametrize("path", PAIRS, ids=lambda path: path.name)
+@pytest.mark.parametrize("path", PAIRS, ids=NAMES)
 def test_damaged_files(path: Path) -> None:
+    """Where bytes are missing at the end, are too many, or all but the first are."""
     data = path.read_bytes()
     for bad in (data[:-3], data[:100], data + b"?", b"b"):
         with pytest.raises(ValueError):

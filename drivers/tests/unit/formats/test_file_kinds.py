@@ -4,6 +4,7 @@ from __future__ import annotations
 
 import gzip
 from pathlib import Path
+from typing import Callable, Optional
 
 import pytest
 from hypothesis import given
@@ -127,7 +128,7 @@ def test_no_start_fails(data: bytes, front: bytes) -> None:
 
 @pytest.mark.parametrize("piece", [b"/**/", b"/* */ ", b"// x\n", b"\\\n", b" \n", b"*\n", b"/*"])
 @pytest.mark.parametrize("looks", [is_mps_start, is_lp_start])
-def test_hostile_starts_take_linear_time(looks, piece: bytes) -> None:
+def test_hostile_starts_take_linear_time(looks: Callable[[bytes], bool], piece: bytes) -> None:
     """The second of these took 46 s of 150 bytes by a regular expression over the whole text."""
     assert_linear(lambda n: piece * n + b"x", looks, 20_000)
 
@@ -153,7 +154,7 @@ def test_a_hostile_file_beside_a_model(tmp_path: Path) -> None:
         (b"", None),
     ],
 )
-def test_a_model_is_known_by_its_start(start: bytes, kind: object) -> None:
+def test_a_model_is_known_by_its_start(start: bytes, kind: Optional[file_kinds.ModelKind]) -> None:
     assert file_kinds.model_kind_of_start(start) is kind
 
 

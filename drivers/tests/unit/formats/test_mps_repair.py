@@ -2,6 +2,8 @@
 
 from __future__ import annotations
 
+from typing import List
+
 import pytest
 from hypothesis import given
 from hypothesis import strategies as st
@@ -82,7 +84,7 @@ def test_the_end_of_a_line_is_kept() -> None:
 
 
 @given(st.lists(st.sampled_from(["UP BND x 3", "UP x inf", "LO BND x -inf", "", " ", "FR BND x"])))
-def test_a_repaired_text_needs_no_repair(bounds: list) -> None:
+def test_a_repaired_text_needs_no_repair(bounds: List[str]) -> None:
     once = repair_mps(text(*bounds))
     assert repair_mps(once.text) == (once.text, [])
 

@@ -4,6 +4,7 @@ from __future__ import annotations
 
 import contextlib
 from pathlib import Path
+from typing import List, Optional
 
 import pytest
 from hypothesis import given
@@ -58,12 +59,12 @@ def test_heads_take_linear_time(tmp_path: Path, piece: bytes) -> None:
         (b"1 0.9 x0.90000000000000002 12345678901234567890\n", None, 0),
     ],
 )
-def test_shortest_decimals(old: bytes, new: bytes, count: int) -> None:
+def test_shortest_decimals(old: bytes, new: Optional[bytes], count: int) -> None:
     assert with_shortest_decimals(old) == (old if new is None else new, count)
 
 
 @given(st.lists(st.floats(allow_nan=False, allow_infinity=False)))
-def test_no_double_changes(values: list) -> None:
+def test_no_double_changes(values: List[float]) -> None:
     text = "\n".join(f"0 {value:.17f}" for value in values).encode()
     shortened, _ = with_shortest_decimals(text)
     assert list(map(float, shortened.split())) == list(map(float, text.split()))

@@ -2,7 +2,7 @@
 
 from __future__ import annotations
 
-from typing import Optional
+from typing import List, Optional
 
 import pytest
 from hypothesis import given
@@ -77,7 +77,7 @@ def test_deep_expressions_stay_short() -> None:
 
 
 @given(st.lists(st.sampled_from(["o0", "o54", "o11", "f1 2", "v0", "n1", "2", "h1:a", "x", ""])))
-def test_any_lines_are_read(lines: list) -> None:
+def test_any_lines_are_read(lines: List[str]) -> None:
     """And what is told stays short, whatever they are."""
     text = expression_in_words([line.encode() + b"\n" for line in lines], NO_NAMES)
     assert len(text) < 400

@@ -13,7 +13,6 @@ from hypothesis import strategies as st
 from bridge_drivers.formats.numbers import (
     LARGEST_EXPONENT,
     LARGEST_INTEGER,
-    NotDecimal,
     decimal,
     decimal_or_fraction,
     decimals,
@@ -25,6 +24,7 @@ from bridge_drivers.formats.numbers import (
     read_decimal,
     read_fraction,
 )
+from bridge_drivers.system.errors import NotDecimal
 from timing import assert_linear
 
 Value = Union[int, float, Fraction]

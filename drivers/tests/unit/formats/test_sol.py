@@ -7,7 +7,6 @@ from pathlib import Path
 from typing import List
 
 import pytest
-from bridge_drivers.system.errors import Damaged
 from hypothesis import given
 from hypothesis import strategies as st
 
@@ -19,6 +18,7 @@ from bridge_drivers.formats.sol import (
     solution_file,
     with_message,
 )
+from bridge_drivers.system.errors import Damaged
 from timing import assert_linear
 
 HEAD = b"g3 1 1 0\n3 1 1 0\n"

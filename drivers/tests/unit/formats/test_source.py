@@ -14,8 +14,6 @@ from typing import Callable, Iterator
 
 import pytest
 
-from bridge_drivers.system.codes import ExitStatus
-from bridge_drivers.system.errors import Damaged, FileFault, NoModel, TooLarge
 from bridge_drivers.formats.source import (
     Limits,
     Source,
@@ -23,6 +21,9 @@ from bridge_drivers.formats.source import (
     read_model,
     read_source,
 )
+from bridge_drivers.system.codes import ExitStatus
+from bridge_drivers.system.errors import Damaged, FileFault, NoModel, TooLarge
+from running.waiting import SECONDS
 
 NL = b"g3 1 1 0\n 1 0 1 0 0\n"
 MPS = b"NAME\nROWS\n N o\nCOLUMNS\nRHS\nENDATA\n"
@@ -139,7 +140,7 @@ def test_a_fifo_is_opened_once(tmp_path: Path, workspace: Workspace, pack: Pack)
     (tmp_path / "data").write_bytes(pack(MPS))
     writer = subprocess.Popen(["sh", "-c", f"cat {tmp_path}/data > {fifo}"])
     source = read_model(str(fifo), workspace)
-    assert writer.wait(10) == 0
+    assert writer.wait(SECONDS) == 0
     assert Path(source.path).read_bytes() == MPS
     assert (source.is_mps, source.stub) == (True, str(tmp_path / "m"))
     assert source.sha256() == sum_of(MPS)

@@ -4,6 +4,7 @@ from __future__ import annotations
 
 from fractions import Fraction
 from pathlib import Path
+from random import Random
 from typing import Dict, List, Tuple
 
 import pytest
@@ -27,6 +28,7 @@ from bridge_drivers.pipeline.statistics import range_line, statistics_lines
 from builders.plain_mps import Plain, random_text
 
 DATA = Path(__file__).parents[2] / "data" / "mps"
+ZERO_TO_ONE = (Fraction(0), Fraction(1))
 MIXED = (
     b"NAME nl\nOBJSENSE\n MAX\nROWS\n N obj\n L c0\n G c2\nCOLUMNS\n x0 obj 1\n x0 c0 3\n"
     b" M0 'MARKER' 'INTORG'\n x1 obj 2\n x1 c0 4\n x1 c2 2\n x2 c0 -2\n x2 c2 4\n"
@@ -78,8 +80,8 @@ def test_random_texts(seed: int) -> None:
     pairs = list(zip(plain.whole.values(), bounds))
     assert found.columns == {
         "continuous": sum(not whole for whole, _ in pairs),
-        "binary": pairs.count((True, (Fraction(0), Fraction(1)))),
-        "integer": sum(whole and pair != (0, 1) for whole, pair in pairs),
+        "binary": pairs.count((True, ZERO_TO_ONE)),
+        "integer": sum(whole and pair != ZERO_TO_ONE for whole, pair in pairs),
         "free": bounds.count((None, None)),
         "fixed": sum(low is not None and low == high for low, high in bounds),
     }
@@ -205,7 +207,7 @@ def slow_residuals(program: LinearProgram, x: List[float]) -> Dict[str, float]:
 
 
 @given(st.integers(0, 200), st.randoms(use_true_random=False))
-def test_residuals_against_a_slow_definition(seed: int, chance) -> None:
+def test_residuals_against_a_slow_definition(seed: int, chance: Random) -> None:
     program = LinearProgram.of_named(random_text(seed))
     values = [repr(chance.uniform(-9, 9)) for _ in range(program.n)]
     found = list(residuals(program, values))

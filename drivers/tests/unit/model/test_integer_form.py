@@ -5,7 +5,7 @@ from __future__ import annotations
 import itertools
 import random
 from fractions import Fraction
-from typing import Dict, List, Optional, Sequence
+from typing import Dict, List, Optional, Sequence, Tuple, Union
 
 import pytest
 from hypothesis import given, settings
@@ -130,14 +130,17 @@ SMALL = st.integers(-3, 3)
 TENTHS = st.integers(-30, 30).map(lambda v: f"{v / 10:.1f}")
 
 
+Case = Tuple[List[Column], List[GivenRow], str]  # with min or max
+
+
 @st.composite
-def small_programs(draw: st.DrawFn):
+def small_programs(draw: st.DrawFn) -> Case:
     """Columns of integer and of continuous kind, with decimals, and rows of each kind."""
     count = draw(st.integers(1, 3))
     columns = []
     for _ in range(count):
-        lower = draw(SMALL)
-        columns.append(Column(lower, lower + 2, draw(st.booleans()), draw(TENTHS)))
+        least = draw(SMALL)
+        columns.append(Column(least, least + 2, draw(st.booleans()), draw(TENTHS)))
     rows = []
     for _ in range(draw(st.integers(0, 3))):
         lower = draw(st.one_of(st.none(), SMALL))
@@ -148,9 +151,15 @@ def small_programs(draw: st.DrawFn):
     return columns, rows, draw(st.sampled_from(["min", "max"]))
 
 
+def is_within(bounded: Union[Column, GivenRow], value: Fraction) -> bool:
+    """Whether a value keeps the bounds of a column or a row."""
+    is_above = bounded.lower is None or value >= F(bounded.lower)
+    return is_above and (bounded.upper is None or value <= F(bounded.upper))
+
+
 @settings(max_examples=50)
 @given(small_programs(), st.integers(0, 10**6))
-def test_the_same_points_are_feasible(case, seed: int) -> None:
+def test_the_same_points_are_feasible(case: Case, seed: int) -> None:
     """And have the same values, at halves."""
     chance = random.Random(seed)
     columns, rows, sense = case
@@ -158,20 +167,22 @@ def test_the_same_points_are_feasible(case, seed: int) -> None:
     for _ in range(30):
         x = [F(chance.randint(-8, 8), 2) for _ in columns]
         fits = all(
-            column.lower <= v <= column.upper and (v.denominator == 1 or not column.is_integer)
+            is_within(column, v) and (v.denominator == 1 or not column.is_integer)
             for column, v in zip(columns, x)
         )
         for row in rows:
-            activity = sum(F(a) * x[j] for j, a in row.coefficients.items())
-            fits &= row.lower is None or activity >= row.lower
-            fits &= row.upper is None or activity <= row.upper
+            terms = (F(a) * x[j] for j, a in row.coefficients.items())
+            fits &= is_within(row, sum(terms, F(0)))
         assert p.is_feasible(x) is fits
         assert p.sign * p.value(x) == sum(F(c.cost) * v for c, v in zip(columns, x))
 
 
 @settings(max_examples=50)
 @given(small_programs())
-def test_the_lattice_of_the_objective(case) -> None:
+def test_the_lattice_of_the_objective(case: Case) -> None:
+    """Each value is the constant and a whole multiple of the spacing; there is none where a
+    continuous column costs something, or nothing does.
+    """
     columns, rows, sense = case
     p = program(columns, rows, sense)
     lattice = p.objective_lattice()
@@ -201,8 +212,8 @@ def test_added_rows(maximised: IntegerProgram) -> None:
     assert (p.m, p.constraint_count) == (5, 3)
     assert maximised.m == 3
     assert [[(j, F(a, p.row_scale)) for j, a in row] for row in p.rows[3:]] == [
-        [(0, -2), (2, 1)],
-        [(1, 1)],
+        [(0, F(-2)), (2, F(1))],
+        [(1, F(1))],
     ]
     assert over(p.row_lower[3:], p.bound_scale) == [None, 1]
     assert over(p.row_upper[3:], p.bound_scale) == [1, 1]
@@ -220,7 +231,7 @@ def test_the_recession_cone(maximised: IntegerProgram) -> None:
     cone = maximised.recession_cone()
     assert (cone.lower, cone.upper) == ([-1, 0, 0], [1, 0, 0])
     assert cone.row_upper == [0, None, 0]
-    assert max(map(abs, cone.cost_fractions)) == 1
+    assert max(abs(cost) for cost in cone.cost_fractions) == 1
     assert cone.is_feasible([F(-1), F(0), F(0)])
     assert not cone.is_feasible([F(1), F(0), F(0)])
 

@@ -5,7 +5,7 @@ from __future__ import annotations
 import math
 from fractions import Fraction
 from pathlib import Path
-from typing import List, Tuple
+from typing import Callable, List, Optional, Sequence, Tuple
 
 import pytest
 from hypothesis import given
@@ -13,6 +13,9 @@ from hypothesis import strategies as st
 
 from bridge_drivers.model.linear_program import LinearProgram, ObjectiveTerms
 from builders.plain_mps import Plain, random_text
+
+Pair = Tuple[Optional[Fraction], Optional[Fraction]]  # a lower and an upper bound
+Entry = Tuple[Tuple[str, str], Fraction]  # a row and a column by name, and a coefficient
 
 DATA = Path(__file__).parents[2] / "data" / "mps"
 BOUNDED = (
@@ -51,9 +54,10 @@ def test_doubles_are_the_nearest(seed: int) -> None:
     text = random_text(seed)
     plain, p = Plain(text), LinearProgram.of_named(text)
 
-    def doubles(pairs: List[Tuple], at: int) -> List[float]:
+    def doubles(pairs: Sequence[Pair], at: int) -> List[float]:
         none = (-math.inf, math.inf)[at]
-        return [none if pair[at] is None else float(pair[at]) for pair in pairs]
+        ends = [pair[at] for pair in pairs]
+        return [none if end is None else float(end) for end in ends]
 
     bounds, sides = list(plain.bounds().values()), list(plain.sides().values())
     assert p.lower.tolist() == doubles(bounds, 0)
@@ -76,7 +80,8 @@ def test_doubles_are_the_nearest(seed: int) -> None:
     }
 
 
-def _place(names: List[str]):
+def _place(names: List[str]) -> Callable[[Entry], int]:
+    """The place of an entry's column among the names of all columns."""
     return lambda entry: names.index(entry[0][1])
 
 

@@ -2,7 +2,7 @@
 
 from __future__ import annotations
 
-from typing import Iterator, List, Tuple
+from typing import Iterator, List, Tuple, TypeVar
 from unittest import mock
 
 import numpy as np
@@ -16,6 +16,8 @@ from bridge_drivers.model.sparse_rows import Entries, SparseRows, sparse_rows_of
 WIDE = 10**40
 WHOLE = st.one_of(st.integers(-3, 3), st.integers(-(10**6), 10**6), st.integers(-WIDE, WIDE))
 DOUBLES = st.floats(-1e9, 1e9)
+Number = TypeVar("Number", int, float)
+Case = Tuple[SparseRows, List[List[Number]]]  # a matrix, and the same as full rows
 
 
 @pytest.fixture(params=["lists", "arrays"], autouse=True)
@@ -27,8 +29,8 @@ def kept_as(request: pytest.FixtureRequest) -> Iterator[None]:
 
 
 @st.composite
-def matrices(draw: st.DrawFn, numbers: st.SearchStrategy = WHOLE) -> Tuple[SparseRows, List[List]]:
-    """A matrix, and the same as full rows."""
+def matrices(draw: st.DrawFn, numbers: st.SearchStrategy[Number]) -> Case[Number]:
+    """Of up to three rows and four columns, of entries or of lists, with numbers that may be 0."""
     m, n = draw(st.integers(0, 3)), draw(st.integers(1, 4))
     full = [[draw(st.one_of(st.just(0), numbers)) for _ in range(n)] for _ in range(m)]
     entries = [(i, j, full[i][j]) for j in range(n) for i in range(m) if full[i][j]]
@@ -47,32 +49,34 @@ def matrices(draw: st.DrawFn, numbers: st.SearchStrategy = WHOLE) -> Tuple[Spars
     return made, full
 
 
-def of_row(full: List[List], j: int) -> List[Tuple[int, int]]:
+def of_column(full: List[List[int]], j: int) -> List[Tuple[int, int]]:
+    """The rows and the coefficients of a column."""
     return [(i, row[j]) for i, row in enumerate(full) if row[j]]
 
 
 @settings(max_examples=50)
-@given(matrices())
-def test_rows_and_columns(case: Tuple[SparseRows, List[List]]) -> None:
+@given(matrices(WHOLE))
+def test_rows_and_columns(case: Case[int]) -> None:
     matrix, full = case
     assert matrix.rows == [[(j, a) for j, a in enumerate(row) if a] for row in full]
-    assert matrix.columns == [of_row(full, j) for j in range(matrix.n)]
+    assert matrix.columns == [of_column(full, j) for j in range(matrix.n)]
     assert [matrix.column(j) for j in range(matrix.n)] == matrix.columns
     assert matrix.lengths == [len(row) for row in matrix.rows]
     assert matrix.count == sum(matrix.lengths)
 
 
 @settings(max_examples=50)
-@given(matrices(), st.data())
-def test_activities_are_exact(case: Tuple[SparseRows, List[List]], data: st.DataObject) -> None:
+@given(matrices(WHOLE), st.data())
+def test_activities_are_exact(case: Case[int], data: st.DataObject) -> None:
     matrix, full = case
     x = data.draw(st.lists(WHOLE, min_size=matrix.n, max_size=matrix.n))
     assert matrix.activities(x) == [sum(a * v for a, v in zip(row, x)) for row in full]
 
 
 @settings(max_examples=50)
-@given(matrices(), st.data())
-def test_minus_combination(case: Tuple[SparseRows, List[List]], data: st.DataObject) -> None:
+@given(matrices(WHOLE), st.data())
+def test_minus_combination(case: Case[int], data: st.DataObject) -> None:
+    """From values by column, a factor times a combination of rows is taken."""
     matrix, full = case
     rows = st.integers(0, max(len(full) - 1, 0))
     multipliers = data.draw(st.dictionaries(rows, WHOLE)) if full else {}
@@ -86,8 +90,9 @@ def test_minus_combination(case: Tuple[SparseRows, List[List]], data: st.DataObj
 
 
 @settings(max_examples=50)
-@given(matrices(), st.data())
-def test_weighted_norms(case: Tuple[SparseRows, List[List]], data: st.DataObject) -> None:
+@given(matrices(WHOLE), st.data())
+def test_weighted_norms(case: Case[int], data: st.DataObject) -> None:
+    """By row, the sum of the sizes of its coefficients, each times the weight of its column."""
     matrix, full = case
     weights = data.draw(st.lists(st.integers(0, WIDE), min_size=matrix.n, max_size=matrix.n))
     expected = [sum(abs(a) * w for a, w in zip(row, weights)) for row in full]
@@ -96,7 +101,7 @@ def test_weighted_norms(case: Tuple[SparseRows, List[List]], data: st.DataObject
 
 @settings(max_examples=50)
 @given(matrices(DOUBLES), st.data())
-def test_doubles(case: Tuple[SparseRows, List[List]], data: st.DataObject) -> None:
+def test_doubles(case: Case[float], data: st.DataObject) -> None:
     """Sums are made in the order of columns, to the last digit."""
     matrix, full = case
     x = data.draw(st.lists(DOUBLES, min_size=matrix.n, max_size=matrix.n))
@@ -113,8 +118,9 @@ def test_doubles(case: Tuple[SparseRows, List[List]], data: st.DataObject) -> No
 
 
 @settings(max_examples=50)
-@given(matrices(), st.data())
-def test_submatrix(case: Tuple[SparseRows, List[List]], data: st.DataObject) -> None:
+@given(matrices(WHOLE), st.data())
+def test_submatrix(case: Case[int], data: st.DataObject) -> None:
+    """Of some rows and columns, whose places are counted anew."""
     matrix, full = case
     rows = [i for i in range(matrix.m) if data.draw(st.booleans())]
     columns = [j for j in range(matrix.n) if data.draw(st.booleans())]
@@ -124,6 +130,7 @@ def test_submatrix(case: Tuple[SparseRows, List[List]], data: st.DataObject) -> 
 
 @given(st.lists(WHOLE), st.integers(1, 60))
 def test_digits(values: List[int], bits: int) -> None:
+    """Digits of so many bits and a sign, shifted by their places, are the values together."""
     total = [0] * len(values)
     for shift, digits in split_digits(values, bits):
         assert all(-1 << bits <= digit < 1 << bits for digit in digits)

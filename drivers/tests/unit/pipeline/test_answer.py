@@ -5,12 +5,13 @@ from __future__ import annotations
 from dataclasses import replace
 from fractions import Fraction
 from pathlib import Path
-from typing import Any, List
+from typing import List, Optional, Sequence
 
 import pytest
 from hypothesis import given
 from hypothesis import strategies as st
 
+from bridge_drivers.formats.numbers import Number
 from bridge_drivers.model.linear_program import LinearProgram
 from bridge_drivers.pipeline.answer import CODE_OF_STATUS, Answer, exact_reduced_costs
 from bridge_drivers.pipeline.settings import Settings
@@ -25,10 +26,34 @@ DIET = LinearProgram.of((PROGRAMS / "diet.mps").read_bytes())  # two variables, 
 RELAXED = Settings(solver_settings=SolverSettings(relax=True))
 
 
-def answer(values: List[Any], settings: Settings = Settings(), **fields: Any) -> Answer:
+def answer(
+    values: Sequence[Number],
+    settings: Settings = Settings(),
+    *,
+    duals: Optional[Sequence[Number]] = None,
+    reduced_costs: Optional[Sequence[Number]] = None,
+    column_basis: Optional[Sequence[int]] = None,
+    row_basis: Optional[Sequence[int]] = None,
+    objective: Optional[Number] = None,
+) -> Answer:
+    """An optimal answer to KNAP, where it has three values, else to DIET."""
     program = KNAP if len(values) == 3 else DIET
-    found = SolverAnswer(SolverStatus.OPTIMAL, "told", values, **fields)
+    found = SolverAnswer(
+        SolverStatus.OPTIMAL,
+        "told",
+        values,
+        duals,
+        reduced_costs,
+        column_basis,
+        row_basis,
+        objective,
+    )
     return Answer(program, found, settings)
+
+
+def first_value(found: Answer) -> str:
+    assert found.values is not None
+    return found.values[0]
 
 
 def test_each_status_has_a_code() -> None:
@@ -39,8 +64,8 @@ def test_each_status_has_a_code() -> None:
 def test_integer_variables() -> None:
     """Within 1e-5 of a whole number they are that number; `round=0` and `relax=1` leave them."""
     assert answer([0.999999, 1e-7, 1.0]).values == ["1", "0", "1"]
-    assert answer([0.999999, 0.0, 1.0], Settings(round_integers=False)).values[0] == "0.999999"
-    assert answer([0.999999, 0.0, 1.0], RELAXED).values[0] == "0.999999"
+    assert first_value(answer([0.999999, 0.0, 1.0], Settings(round_integers=False))) == "0.999999"
+    assert first_value(answer([0.999999, 0.0, 1.0], RELAXED)) == "0.999999"
 
 
 def test_a_value_that_is_not_near() -> None:
@@ -71,7 +96,7 @@ def test_what_is_no_number(value: float) -> None:
         (Fraction(10**50, 3), "3.3333333333333332e+49 (a fraction of 53 digits)"),
     ],
 )
-def test_the_objective(objective: Any, text: str) -> None:
+def test_the_objective(objective: Optional[Number], text: str) -> None:
     assert answer([4.0, 0.8], objective=objective).objective_text() == text
     assert Answer(DIET, SolverAnswer(SolverStatus.LIMIT, ""), Settings()).objective_text() is None
 

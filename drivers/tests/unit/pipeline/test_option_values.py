@@ -3,7 +3,6 @@
 from __future__ import annotations
 
 from pathlib import Path
-from typing import Any
 
 import pytest
 
@@ -44,7 +43,7 @@ from bridge_drivers.system.errors import WrongOption
         ("xcheck", 1),  # of glpsol alone
     ],
 )
-def test_a_value_of_another_kind(name: str, value: Any) -> None:
+def test_a_value_of_another_kind(name: str, value: object) -> None:
     with pytest.raises(WrongOption):
         checked_values("cbc", {name: value})
 

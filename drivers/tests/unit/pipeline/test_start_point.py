@@ -4,7 +4,7 @@ from __future__ import annotations
 
 from fractions import Fraction
 from pathlib import Path
-from typing import List
+from typing import Dict, List, Optional
 
 import pytest
 
@@ -28,7 +28,7 @@ def knapsack() -> LinearProgram:
     return program
 
 
-def started(values: "dict[str, int]", *, is_named: bool = True) -> StartPoint:
+def started(values: Dict[str, int], *, is_named: bool = True) -> StartPoint:
     point = start_point(knapsack(), None, {name: Fraction(v) for name, v in values.items()})
     assert point is not None
     return point._replace(is_named=is_named)
@@ -54,7 +54,7 @@ def test_names_are_those_of_the_user() -> None:
         ("m\n\nOptions\n0\n1\n0\n3\n3\n1\n1\n0\n", [ONE, ONE, Fraction(0)]),
     ],
 )
-def test_a_file(tmp_path: Path, text: str, values: "List[Fraction | None]") -> None:
+def test_a_file(tmp_path: Path, text: str, values: List[Optional[Fraction]]) -> None:
     path = tmp_path / "start"
     path.write_text(text)
     point = start_point(knapsack(), None, str(path))
@@ -114,7 +114,7 @@ AS_GOOD = answered(SolverStatus.OPTIMAL, 1.0, 1.0, 0.0)
 def test_a_start_that_is_better(answer: Answer) -> None:
     evidence, note = judged_start(started({"a": 1, "b": 1}), answer, feasible)
     assert evidence is not None
-    assert (evidence.point, evidence.value) == ([1, 1, 0], 17)
+    assert (evidence.point, evidence.value) == ([ONE, ONE, Fraction(0)], Fraction(17))
     assert note == "the search begins with the start, whose objective is exactly 17"
 
 

@@ -187,7 +187,7 @@ def test_what_is_told_of_a_text_that_is_no_verdict(out: bytes, told: str) -> Non
 def test_a_verdict_cannot_be_changed() -> None:
     verdict = Verdict(reply(1, "leaf 0 gap 3"))
     with pytest.raises(AttributeError):
-        verdict.statement = Statement(Claim.OPTIMAL, F(1), F(1))  # type: ignore[misc]
+        verdict.statement = Statement(Claim.OPTIMAL, F(1), F(1))  # type: ignore[misc]  # asked here
 
 
 @given(st.fractions(), st.sampled_from(["optimal", "feasible", "bound"]))

@@ -3,7 +3,7 @@
 from __future__ import annotations
 
 from pathlib import Path
-from typing import List
+from typing import Dict, List, Tuple
 
 import pytest
 
@@ -103,7 +103,7 @@ def test_esolver_takes_no_empty_program() -> None:
 @pytest.mark.parametrize("solver", list(SOLVERS))
 def test_progress(solver: str) -> None:
     """What a log tells, in the objective's own sense; what is no number is left out."""
-    lines = {
+    lines: Dict[str, Tuple[str, Dict[str, float]]] = {
         "cbc": (
             "Cbc0010I After 3 nodes, 2 on tree, -17 best solution, best possible -18.5 (1 s)",
             {"nodes": 3.0, "open": 2.0, "incumbent": 17.0, "bound": 18.5},

@@ -269,7 +269,7 @@ def test_without_a_shell_for_the_guard() -> None:
     def started(argv: Sequence[str], **words: object) -> object:
         if processes.GUARD in argv:
             raise FileNotFoundError("/bin/sh")
-        return start(argv, **words)  # type: ignore[call-overload]
+        return start(argv, **words)  # type: ignore[call-overload]  # whatever they are
 
     with mock.patch.object(subprocess, "Popen", started):
         assert run(["/bin/echo", "x"], Deadline()).output == b"x\n"
@@ -281,7 +281,7 @@ def test_a_process_that_is_being_started_has_ended(gate: SignalGate) -> None:
     start = subprocess.Popen
 
     def interrupted(*words: object, **others: object) -> object:
-        started.append(start(*words, **others))  # type: ignore[call-overload]
+        started.append(start(*words, **others))  # type: ignore[call-overload]  # whatever they are
         signal.raise_signal(signal.SIGTERM)
         return started[-1]
 
