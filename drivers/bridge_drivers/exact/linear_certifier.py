@@ -34,7 +34,7 @@ MOST_REFINED_ENTRIES = 200_000  # of a program whose bases are refined
 SHORT_SECONDS = 4.0  # of the processor, for a short point, and again for short duals
 SHORT_ENTRIES_PER_SECOND = 50_000  # coefficients of a large program that have a second each
 LARGE_SHORT_ENTRIES = 200_000  # from which on duals are rounded as they are, too
-SHORT_ROUNDS = 3  # of refinement, where no exact basis is looked for
+SHORT_ROUNDS = 2  # of refinement, where no exact basis is looked for: some 1e-27
 NEAR_ENOUGH = Fraction(1, 10**9)  # of the value, or of 1: between a point and a bound
 MOST_ASKED_ENTRIES = 50_000  # of a program that another one is asked to solve in fractions
 EXACT_SHARE = 0.25  # of the time that is left, for that
@@ -90,8 +90,9 @@ class LinearCertifier:
         """`optimal`, else `unbounded`, else the strongest claims that can be had.
 
         Short numbers near the answer come first, then bases, then fractions; of a large program the
-        answer's basis at once, and short numbers where no basis is exactly optimal. Where the
-        optimum's exact numbers are too wide, or it is not found, a point and a bound in short ones.
+        answer's basis at once, and short numbers where no basis is exactly optimal and none is too
+        wide. Where the optimum's exact numbers are too wide, or it is not found, a point and a
+        bound in short ones.
 
         Args:
             answer: Without values where the solver gave none.
@@ -107,7 +108,7 @@ class LinearCertifier:
             yield self.refuter.certify_ray()
         if clp is not None:
             yield from self.by_bases(self.bases(clp))
-            if is_large and self.optimum is None:
+            if is_large and self.optimum is None and not self.store.note:
                 yield from self._by_points(answer, clp)
             yield from self._by_exact_solver()
             self.add_short_numbers(clp)

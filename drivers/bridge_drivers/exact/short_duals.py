@@ -179,7 +179,7 @@ def rounded_bound(program: IntegerProgram, bound: Fraction) -> Fraction:
     Args:
         bound: Minimised, with the constant.
     """
-    first_digit = math.floor(math.log10(max(1.0, abs(float(bound)))))
+    first_digit = math.floor(math.log10(max(1, int(abs(bound)))))  # of any size: no double
     step = Fraction(10) ** (first_digit - DIGITS_OF_BOUND)
     least = box_bound(program)
     short = math.floor(bound / step) * step

@@ -12,8 +12,7 @@ rounding. The steps, in the modules of the same names:
    those rows is shared among their own unknowns (`shared_remainders`).
 5. Where a row divides, unknowns before it are rounded to multiples of the divisor.
 6. Each is judged exactly. The step is the longest that the wanted nearness allows, since it leaves
-   the most room for rounding, and decimals become more until the judge takes them: so the first
-   that is taken has the fewest digits.
+   the most room for rounding, and of decimals the fewest are looked for that the judge takes.
 
 `short_points` asks for points so, `short_duals` for duals.
 """
@@ -45,7 +44,7 @@ GOAL = 4e-10  # of the value, or of 1: how near a solution is wanted, half of 1e
 MOST_PLACES = 38
 LEAST_PLACES = 3
 PLACES_APART = 2  # between the numbers of decimals that are tried
-MOST_TRIES = 8  # of more and more decimals for one step
+MOST_TRIES = 8  # numbers of decimals that one step is looked at with
 
 
 class Way(NamedTuple):
@@ -165,25 +164,31 @@ class ShortSolutions(Generic[Short]):
                     yield known[-1]
 
     def _is_near_enough(self, rounder: Rounder, rate: float, way: Way, beyond: int) -> bool:
-        """Tries more and more decimals with one step; whether a solution comes as near as GOAL,
-        which is then `best`.
+        """Looks for the fewest decimals that do with one step; whether a solution comes as near as
+        GOAL, which is then `best`.
+
+        Few decimals break a row or a bound, and many are too wide, so that the first ones are
+        looked for by halving, few of them first. The step that goes farther than GOAL allows is
+        taken with any solution.
 
         Args:
             beyond: Of `Stage.steps`.
         """
         step = beyond + step_places(rate)
         most = min(MOST_PLACES, step + PLACES_APART * MOST_TRIES)
-        for places in range(step + 1, most, PLACES_APART) if step >= LEAST_PLACES else ():
-            found = self._tried(rounder, Rounding(places, step, *way))
-            if isinstance(found, Trial):
-                if found.is_wide or self.deadline.is_over():
-                    return False
-                continue
-            if self.best is None or found.gap < self.best.gap:
+        places = range(step + 1, most, PLACES_APART) if step >= LEAST_PLACES else range(0)
+        goal = GOAL if beyond >= 0 else math.inf
+        is_near = False
+        low, high = 0, len(places)  # too few below `low`; enough, or too many, from `high` on
+        while low < high and not self.deadline.is_over():
+            middle = min(2 * low, (low + high) // 2)
+            found = self._tried(rounder, Rounding(places[middle], step, *way))
+            is_enough = found.is_wide if isinstance(found, Trial) else found.gap <= goal
+            low, high = (low, middle) if is_enough else (middle + 1, high)
+            if isinstance(found, Judged) and (self.best is None or found.gap <= self.best.gap):
                 self.best = found
-            if found.gap <= GOAL or beyond < 0:
-                return found.gap <= GOAL
-        return False
+            is_near = is_near or isinstance(found, Judged) and found.gap <= GOAL
+        return is_near
 
     def _tried(self, rounder: Rounder, rounding: Rounding) -> Judged[Short] | Trial:
         """One rounding, judged."""

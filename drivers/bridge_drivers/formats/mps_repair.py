@@ -20,6 +20,7 @@ from .mps_layout_repair import (
     edited,
     name_repair,
 )
+from .mps_spaced_names import spaced_names_repair
 
 BYTE_ORDER_MARK = b"\xef\xbb\xbf"
 INFINITY = re.compile(rb"(?P<sign>[-+]?)inf(?:inity)?", re.IGNORECASE)  # of one word
@@ -36,6 +37,7 @@ LAYOUT_REPAIRS: Sequence[Callable[[bytes], Optional[Repair]]] = (
     blank_names_repair,
     blank_sets_repair,
     double_bounds_repair,
+    spaced_names_repair,
 )
 
 

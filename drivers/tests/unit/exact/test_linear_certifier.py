@@ -7,7 +7,8 @@ from typing import Iterator
 
 import pytest
 
-from bridge_drivers.exact.basis import NearBasis
+from bridge_drivers.exact import linear_certifier
+from bridge_drivers.exact.basis import NearBasis, can_lift
 from bridge_drivers.exact.certifier import certify
 from bridge_drivers.exact.clp import library
 from bridge_drivers.exact.evidence import AnswerByPlace, AnswerClaim, Evidence
@@ -16,6 +17,7 @@ from bridge_drivers.exact.search_deadline import SearchDeadline
 from bridge_drivers.exact.task import ExactAnswer, SearchOptions
 from bridge_drivers.model.integer_form import IntegerProgram
 from bridge_drivers.system.deadline import Deadline
+from bridge_drivers.system.errors import NotSolved, TooManyBits
 from judging import Judge
 from programs import Column, Row, program
 
@@ -117,3 +119,35 @@ def test_what_needs_the_bits_is_told() -> None:
     assert 0 <= value - bound <= value / 10**9
     for part in ("its point", "its duals", "its value"):
         assert part in evidence.note
+
+
+@pytest.mark.skipif(not can_lift(), reason="no SciPy")
+@pytest.mark.parametrize("wide", [True, False])
+def test_no_points_near_the_answer_of_a_large_program_that_is_too_wide(
+    monkeypatch: pytest.MonkeyPatch, wide: bool
+) -> None:
+    """They are looked for where no basis is optimal, and not where one has too many bits: of a
+    large program that takes long, and a vertex of long numbers has no short ones in its place."""
+    asked = []
+
+    def fails(*_: object) -> None:
+        raise TooManyBits("more than 169 bits") if wide else NotSolved("it is not optimal")
+
+    def no_points(*_: object) -> Iterator[Evidence]:
+        asked.append(True)
+        return iter(())
+
+    monkeypatch.setattr(linear_certifier, "LARGE_ENTRIES", 1)
+    monkeypatch.setattr(linear_certifier, "exact_optimum", fails)
+    monkeypatch.setattr(LinearCertifier, "_by_points", no_points)
+    model = two_rows()
+    evidence = certify(
+        model,
+        Judge(model),
+        claim=AnswerClaim.POINT,
+        answer=AnswerByPlace(),
+        deadline=SearchDeadline(60.0),
+        options=SearchOptions(proves=False),
+    )
+    assert evidence.claim == ("within" if wide else "optimal")
+    assert bool(asked) is not wide

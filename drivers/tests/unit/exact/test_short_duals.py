@@ -129,3 +129,14 @@ def test_a_rounded_bound_is_a_little_worse(bound: Fraction) -> None:
 def test_a_rounded_bound_is_no_worse_than_the_box() -> None:
     assert rounded_bound(two_rows(), F(1, 10**15)) == 0
     assert rounded_bound(two_rows(), F(10, 3)) == F("3.333333333333")
+
+
+@pytest.mark.parametrize("exponent", [0, 15, 307, 309, 400, 5000])
+@pytest.mark.parametrize("sign", [1, -1])
+def test_bounds_beyond_doubles_are_rounded(exponent: int, sign: int) -> None:
+    """Without an own bound of columns the rounded one is below by 1e-12 of its size at most."""
+    p = two_rows().with_bounds([None, None], [None, None])
+    bound = sign * F(10**exponent * 22, 7)
+    short = rounded_bound(p, bound)
+    assert 0 < bound - short <= abs(bound) / 10**12
+    assert abs(short.numerator) // 10 ** max(0, exponent - 12) < 10**14

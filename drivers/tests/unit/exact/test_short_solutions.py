@@ -19,7 +19,8 @@ from bridge_drivers.exact.row_system import (
     system_of_duals,
     system_of_points,
 )
-from bridge_drivers.exact.shared_remainders import Rounder, Rounding, shared
+from bridge_drivers.exact.shared_remainders import RoundedSolution, Rounder, Rounding, shared
+from bridge_drivers.exact.short_solutions import GOAL, Judged, ShortSolutions, Trial
 from bridge_drivers.model.integer_form import IntegerProgram
 from bridge_drivers.system.deadline import Deadline
 from programs import Column, Row, program
@@ -132,3 +133,34 @@ def test_equations_are_met_exactly(p: IntegerProgram, eager: bool, moves: list[F
         for i, row in enumerate(p.rows):
             activity = sum(F(a, p.row_scale) * values[j] for j, a in row)
             assert activity == F(sides[i], p.bound_scale)
+
+
+@NEEDS_CLP
+@pytest.mark.parametrize("wide", range(3, 27, 2))
+@pytest.mark.parametrize("enough", range(3, 27, 2))
+def test_the_fewest_decimals_by_halving(enough: int, wide: int) -> None:
+    """A judge that takes decimals from `enough` on, and finds those from `wide` on too long.
+
+    The step is 1e-3, with which 4, 6, .. 18 decimals are the numbers that there are: at most
+    five of them are tried, and the first that holds is found.
+    """
+    p = program([Column(0, None, cost=1)], [Row(1, None, {0: 3})])
+    tried: list[int] = []
+
+    def judge(solution: RoundedSolution) -> Judged[int] | Trial:
+        places = len(str(solution.unit)) - 1
+        tried.append(places)
+        if places >= wide:
+            return Trial(is_wide=True)
+        return Judged(GOAL, places) if places >= enough else Trial(is_wide=False)
+
+    base = [fixed_point(F(1, 3))]
+    system = system_of_points(p)
+    search = ShortSolutions(system, base, 1e-15, judge, lambda _: 0.0, Deadline(60.0))
+    found = search.find()
+    first = min((k for k in range(4, 19, 2) if enough <= k < wide), default=None)
+    if first is None:
+        assert found is None or found.solution in range(enough, wide)
+    else:
+        assert found is not None and found.solution == first
+        assert len(tried) <= 5
