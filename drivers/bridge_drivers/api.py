@@ -483,9 +483,7 @@ def _solved(
     """
     try:
         _check_solver(solver)
-        wanted = run_settings(solver, checked_values(solver, given))
-        if call.command == CERTIFY and given.get("timelim") is None:
-            wanted = certify_settings(wanted)
+        wanted = _settings_of(call, solver, given)
     except WrongOption as fault:
         raise call.failed(fault, code=int(Code.BAD_OPTION)) from None
     with Workspace() as workspace, _keyboard() as keyboard:
@@ -526,6 +524,13 @@ def _read(call: ReportedCall, model: GivenModel, workspace: Workspace) -> Source
     source = read_given_model(model, workspace)
     call.read_model(source)
     return source
+
+
+def _settings_of(call: ReportedCall, solver: str, given: Mapping[str, Any]) -> RunSettings:
+    """The settings of a call; WrongOption where an option is unknown or its value of another kind."""
+    wanted = run_settings(solver, checked_values(solver, given))
+    is_endless = call.command == CERTIFY and given.get("timelim") is None
+    return certify_settings(wanted) if is_endless else wanted
 
 
 def _check_fit(source: Source, wanted: RunSettings, *, in_memory: bool) -> None:

@@ -494,7 +494,8 @@ def whole_systems(rng: random.Random) -> Parts:
 def huge_equations(rng: random.Random) -> Parts:
     """Beside a coefficient of some 1e20 the rest of an equation is nothing to a double."""
     size = rng.choice([5 * 10**19, 10**20 - 1, 10**20, 2 * 10**20 + 3, 10**24])
-    at, rest, step = rng.randint(1, 9), rng.randint(0, 30), rng.randint(1, 5)
+    at, rest = rng.randint(1, 9), rng.randint(0, 30)
+    step = rng.randint(1, 5)
     most, room = rng.randint(1, 9), rng.choice([0, step - 1])
     columns: List[Column] = [("I", 0, 12), ("I", 0, most)]
     low, y = at * size + rest, -(-rest // step)  # the first column is `at`, the other one y

@@ -20,7 +20,8 @@ def models_of(kind: str) -> list[Misleading]:
 def test_the_least_of_an_equation(model: Misleading) -> None:
     """At it the other column is whole and not below 0, and so it is at no less value."""
     ((side, _, row),) = model.rows
-    a, b, c = int(row[0]), -int(row[1]), int(side or 0)
+    a, b = int(row[0]), -int(row[1])
+    c = int(side or 0)
     if model.best is None:
         assert c % math.gcd(a, b)
         return
