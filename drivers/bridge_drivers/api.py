@@ -26,6 +26,7 @@ from .pipeline.memory import GivenModel, is_in_memory, read_given_model
 from .pipeline.monitor import Monitor, ProgressEvent
 from .pipeline.option_values import (
     RunSettings,
+    certify_settings,
     checked_values,
     objective_number,
     run_settings,
@@ -70,7 +71,6 @@ Path = Union[str, "os.PathLike[str]"]
 OnProgress = Callable[[ProgressEvent], None]
 FRONT = "nl-bridge"
 CERTIFY = "bridge-certify"
-CERTIFY_SECONDS = 120.0  # of a run of `certify` of which nothing else is said
 
 
 def solve(
@@ -129,8 +129,8 @@ def certify(
         model: A path, the bytes of a file, or a program.
         solver: The name of the solver.
         certificate: Where the certificate is kept; None for nowhere.
-        timelim: Seconds of the whole run, of which one half is kept for the search: 120 where
-            nothing is said; 0 for no limit, but 60 seconds of the search.
+        timelim: Seconds of the whole run, of which one half is kept for the search; 0 for no
+            limit, but 60 seconds of the processor for the search. None is 0 with 60 for the solver.
         program: The solver's program, where it is not on the PATH.
         on_progress: As of `solve`.
         options: Further options of the driver, by name.
@@ -141,7 +141,7 @@ def certify(
     given = {
         "prove": True,
         "certificate": certificate,
-        "timelim": CERTIFY_SECONDS if timelim is None else timelim,
+        "timelim": timelim,
         "solver": program,
     }
     return _solved(ReportedCall(CERTIFY), model, solver, {**given, **options}, on_progress)
@@ -483,7 +483,7 @@ def _solved(
     """
     try:
         _check_solver(solver)
-        wanted = run_settings(solver, checked_values(solver, given))
+        wanted = _settings_of(call, solver, given)
     except WrongOption as fault:
         raise call.failed(fault, code=int(Code.BAD_OPTION)) from None
     with Workspace() as workspace, _keyboard() as keyboard:
@@ -524,6 +524,13 @@ def _read(call: ReportedCall, model: GivenModel, workspace: Workspace) -> Source
     source = read_given_model(model, workspace)
     call.read_model(source)
     return source
+
+
+def _settings_of(call: ReportedCall, solver: str, given: Mapping[str, Any]) -> RunSettings:
+    """The settings of a call; WrongOption where an option is unknown or its value of another kind."""
+    wanted = run_settings(solver, checked_values(solver, given))
+    is_endless = call.command == CERTIFY and given.get("timelim") is None
+    return certify_settings(wanted) if is_endless else wanted
 
 
 def _check_fit(source: Source, wanted: RunSettings, *, in_memory: bool) -> None:

@@ -14,6 +14,7 @@ from pathlib import Path
 from typing import List, Optional, Sequence
 
 from ..pipeline.answered_run import Outcome
+from ..pipeline.option_values import RunSettings, certify_settings
 from ..system.codes import ExitStatus
 from ..system.errors import BridgeError, WrongOption
 from .console import Console, Destination, run_command
@@ -83,6 +84,11 @@ class CertifyCommand(DriverCommand):
             raise WrongOption("json=1 and certificate=- both want standard output")
         self.console.destination = Destination.ERRORS
         self.options.put("certificate", self.workspace.new_path())
+
+    def _run_settings(self) -> RunSettings:
+        """As of a driver, but for a limit of the solver where nothing is said of `timelim`."""
+        found = super()._run_settings()
+        return found if self.options.is_given("timelim") else certify_settings(found)
 
     def message_of(self, outcome: Outcome) -> List[str]:
         """The lines that are told; where the certificate is printed, without that on its file."""

@@ -13,7 +13,13 @@ import textwrap
 from dataclasses import dataclass, replace
 from typing import Dict, Iterable, List, Mapping, Sequence, Union
 
-from ..pipeline.option_values import MOST_OBJECTIVES, MOST_PROCESSES, RunSettings, run_settings
+from ..pipeline.option_values import (
+    CERTIFY_SOLVER_SECONDS,
+    MOST_OBJECTIVES,
+    MOST_PROCESSES,
+    RunSettings,
+    run_settings,
+)
 from ..solvers import SOLVERS
 from ..solvers.settings import SolverOption
 from ..system.errors import WrongOption
@@ -297,10 +303,11 @@ CERTIFY_OPTIONS: Sequence[Option] = (
     Option("stats", 0, SWITCH, "1: a line of figures"),
     Option(
         "timelim",
-        120.0,
+        0.0,
         AMOUNT,
-        "seconds of the whole run, of which one half is kept for the certificate; "
-        "0: no limit, but the certificate has 60 seconds of the processor",
+        "seconds of the whole run, of which one half is kept for the certificate; 0: no limit, but "
+        "the certificate has 60 seconds of the processor (so it is without this option, too, but "
+        f"that the solver has {CERTIFY_SOLVER_SECONDS:g} of the clock)",
     ),
 )
 

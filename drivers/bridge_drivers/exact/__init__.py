@@ -12,7 +12,8 @@ line is all that is told. The front is `certifier.certify`. From below:
 - certificates: `tree` (nodes as data), `certificate` (its text);
 - cuts: `mir`, `mir_separation`, `cliques`, `cuts` (rounds at the root);
 - branch and bound: `node`, `fathoming`, `branching`, `exact_leaf`, `search`; by several processes
-  `parallel` and `worker_pools`; strategies (`strategies`) that race in `portfolio`;
+  `parallel` and `worker_pools`; strategies (`strategies`) that race in `portfolio`, beside
+  which `preparing` makes what others begin with;
 - what is claimed: `evidence`, `task`, `refutations`, `linear_certifier`, `integer_certifier`,
   `certifier`; time: `search_deadline`, `work_limit`.
 """

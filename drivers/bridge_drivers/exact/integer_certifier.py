@@ -219,23 +219,29 @@ class IntegerCertifier:
                 (`points.integer_residual`); up to ROUNDING it may be rounding alone.
         """
         found = first_proved(self._tried_without_point(violation))
-        claimed, value = found.point, self.program.value([Fraction(v) for v in x])
-        is_worse = (
-            claimed is not None and found.claim != "optimal" and self.program.value(claimed) > value
-        )
-        bound = self.store.bound
-        size = Fraction(1) if bound is None else max(Fraction(1), abs(bound.value))
-        if bound is not None and bound.value - value > FAR_BEYOND * size:
+        value = self.program.value([Fraction(v) for v in x])
+        is_worse = self._is_worse_point(found, value)
+        if self._is_beyond_bound(value):
             self.is_answer_contradicted = True
         if found.is_proved and (self.is_answer_contradicted or not is_worse):
             return found
-        reason = NO_EXACT_POINT
-        if 0 < violation <= ROUNDING:
-            reason = (
-                f"rows of whole variables are missed by {float(violation):.2g} of "
-                "their largest term, which is rounding"
-            )
+        reason = _reason_without_exact_point(violation)
         return not_proved(reason)._replace(contradicts_answer=self.is_answer_contradicted)
+
+    def _is_worse_point(self, found: Evidence, value: Fraction) -> bool:
+        """Whether a claim tells of a point that is worse than an answer of this value, minimised,
+        and not of an optimum."""
+        if found.point is None or found.claim == "optimal":
+            return False
+        return self.program.value(found.point) > value
+
+    def _is_beyond_bound(self, value: Fraction) -> bool:
+        """Whether the store's bound contradicts an answer of this value, minimised: the value is
+        better by more than FAR_BEYOND of the bound, or of 1."""
+        bound = self.store.bound
+        if bound is None:
+            return False
+        return bound.value - value > FAR_BEYOND * max(Fraction(1), abs(bound.value))
 
     def _tried_without_point(self, violation: Fraction) -> Iterator[Evidence]:
         """A refutation, or what follows from a point that its search finds.
@@ -257,3 +263,17 @@ class IntegerCertifier:
         at_last = self.refuter.by_relaxation_at_last()
         optimal = (evidence for evidence in at_last if evidence.claim == "optimal")
         return itertools.chain(refutations, optimal)
+
+
+def _reason_without_exact_point(violation: Fraction) -> str:
+    """Why no exact point has an answer's integer columns, in words.
+
+    Args:
+        violation: As in `IntegerCertifier._without_exact_point`.
+    """
+    if 0 < violation <= ROUNDING:
+        return (
+            f"rows of whole variables are missed by {float(violation):.2g} of "
+            "their largest term, which is rounding"
+        )
+    return NO_EXACT_POINT

@@ -79,7 +79,7 @@ def lattice_forms(program: IntegerProgram) -> Optional[List[Form]]:
         more than MOST_FORMS dimensions, or takes too long.
     """
     equations = integer_equations(program)
-    columns = [j for j, is_integer in enumerate(program.is_integer) if is_integer]
+    columns = _integer_columns(program)
     if not equations:
         return None
     solved = HermiteForm(equations, columns)
@@ -90,8 +90,17 @@ def lattice_forms(program: IntegerProgram) -> Optional[List[Form]]:
     if forms is None:
         return None
     sides = [equation.coefficients for equation in equations]
-    named = [{j: a for j, a in zip(columns, form) if a} for form in forms]
-    return [reduced_modulo(form, sides) for form in named]
+    return [reduced_modulo(_by_column(columns, form), sides) for form in forms]
+
+
+def _integer_columns(program: IntegerProgram) -> List[int]:
+    """The places of a program's integer columns, in their order."""
+    return [j for j, is_integer in enumerate(program.is_integer) if is_integer]
+
+
+def _by_column(columns: Sequence[int], coefficients: Sequence[int]) -> Form:
+    """A form by the program's columns, of which it has these coefficients in their order."""
+    return {j: a for j, a in zip(columns, coefficients) if a}
 
 
 def _reduced_forms(
@@ -188,14 +197,19 @@ class HermiteForm:
             left = [j for j in range(self.rank, len(self._matrix)) if self._matrix[j][row]]
             least = min(left, key=lambda j: abs(self._matrix[j][row]), default=self.rank)
             if len(left) < 2:
-                for lists in (self._matrix, self.unimodular, self.inverse) if left else ():
-                    lists[self.rank], lists[least] = lists[least], lists[self.rank]
+                self._exchange(self.rank, least)
                 return True
             for j in left:
                 if j != least:
                     self._subtract(j, least, self._matrix[j][row] // self._matrix[least][row])
             if max(abs(v) for v in self.unimodular[least]) > LARGEST_NUMBER:
                 return False
+
+    def _exchange(self, column: int, other: int) -> None:
+        """Exchanges two columns of A U, and of U."""
+        if column != other:
+            for lists in (self._matrix, self.unimodular, self.inverse):
+                lists[column], lists[other] = lists[other], lists[column]
 
     def _subtract(self, column: int, other: int, factor: int) -> None:
         """Takes `factor` times the other column away from a column of A U, and of U."""
@@ -338,7 +352,7 @@ def lattice_optimum(program: IntegerProgram, check: Callable[[], None]) -> Optio
         return None
     forms = lattice_forms(program)
     if forms is None and has_wide_numbers(program):
-        forms = [{j: 1} for j, is_integer in enumerate(program.is_integer) if is_integer]
+        forms = [{j: 1} for j in _integer_columns(program)]
     if forms is None or len(forms) > MOST_FORMS:
         return None
     return LatticeSearch(program, forms, check).run()

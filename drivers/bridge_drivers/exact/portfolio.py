@@ -19,23 +19,19 @@ import weakref
 from fractions import Fraction
 from typing import Callable, Dict, List, Optional, Sequence
 
-from .lattice import thin_directions
 from .short_duals import box_bound
-from .search_deadline import SearchDeadline
+from .search_deadline import RaceClock, SearchDeadline
 from ..model.integer_form import IntegerProgram, Point, Row
 from ..system.errors import SearchEnded, SearchPaused
-from .cuts import CertificateWithCuts, ObjectiveCutoff, ProvedCut, RootCutLoop
+from .cuts import CertificateWithCuts, ObjectiveCutoff, ProvedCut
 from .parallel import ParallelSearch
 from .search import MOST_NODES, ExactPoint, ImprovedIncumbent, NodeNotClosed
+from .preparing import FIRST_CUT_SECONDS, Preparer
 from .strategies import (
-    CLIQUE,
-    KINDS_OF_CUTS,
-    LEAST_CLOSED_SHARE,
+    FARTHEST_FORECAST,
     LEAST_ESTIMATE,
-    MIR,
     PLAIN,
-    THIN,
-    Preparation,
+    TURN_SECONDS,
     ProvedBound,
     Strategy,
     TreeText,
@@ -45,22 +41,10 @@ from .tree import Tree
 from .worker_pools import SearchProblem, WorkerPool
 from .work_limit import check_work
 
-RESERVE = 0.07  # of the limit of all seconds, for a bound
 FIRST_NODES = 100  # of the plain search, before all else
-TURN_SECONDS = 0.25  # that a turn has at least
 PLAIN_TURN_SECONDS = 0.1  # of a run that has no other strategy
 PLAIN_RESERVE_SECONDS = 1.0  # for a bound, in such a run
 OTHERS_SHARE = 0.1  # of all seconds, for what is not the first strategy
-CUTS_SHARE = 0.4  # of all seconds, for cuts, whatever other strategies took
-LEAST_ROUND_SECONDS = 0.2  # of these at a time: a round of cuts takes its time
-MOST_STRATEGIES_BELOW_CUTS = 5
-FARTHEST_FORECAST = 2.0  # times the seconds so far: later ends of the first strategy count as this
-LEAST_CUT_SECONDS = 0.05  # from which on the first cuts are made
-FIRST_CUT_SECONDS = 0.5  # that they may be made at once
-LATTICE_AFTER_SECONDS = 2.0  # before which no lattice is reduced
-MOST_LATTICE_COLUMNS = 45  # integer ones
-ENOUGH_CLOSED = {MIR: 0.5, CLIQUE: 0.25}  # of the gap: then a strategy begins below the cuts
-LEAST_SHARE_BELOW_CUTS = 0.2  # of another strategy's seconds, that one below cuts seems to need
 SHORTER_TIMES = 4.0  # the seconds of the first tree, for a shorter one
 SHORTER_SECONDS = 2.0  # more
 SHORT_TREE = 40  # nodes of a tree that needs no shorter one
@@ -80,15 +64,14 @@ class Portfolio:
     Attributes:
         lattice: Of the objective; None where it has none.
         objective: The value, as cutoff of the searches and as a row.
-        cut_loop: Makes cuts, from `_prepare`.
+        clock: Its seconds.
+        preparer: Makes what further strategies are to have.
         strategies: That were begun, the plain one first.
         best: The tree with the shortest text so far.
         bound: A tree for a value that is a little worse, where nodes close for that alone.
         on_improved: Is told each better point that a search finds.
-        started: The second of the deadline at which it began.
-        end: Seconds after `started` at which a shorter tree is not looked for any more.
+        end: Seconds of the race at which a shorter tree is not looked for any more.
         has_no_value: Whether there is to be no point: then there is no gap to be seen.
-        preparation: What further strategies are still to have.
     """
 
     def __init__(
@@ -116,15 +99,14 @@ class Portfolio:
         self.pool = pool
         self.lattice = program.objective_lattice()
         self.objective = ObjectiveCutoff(program, value, self.lattice)
-        self.cut_loop = RootCutLoop(program, self.objective, deadline)
+        self.clock = RaceClock(deadline)
+        self.preparer = Preparer(program, self.objective, self.clock)
         self.best: Optional[TreeText] = None
         self.bound: Optional[ProvedBound] = None
         self.on_improved: Callable[[Point], None] = lambda point: None
         self.strategies: List[Strategy] = []
-        self.started = deadline.spent()
-        self.end = math.inf  # seconds after `started`
+        self.end = math.inf
         self.has_no_value = value is None
-        self.preparation = Preparation([THIN, CLIQUE] if self.has_no_value else [MIR, CLIQUE, THIN])
 
     @property
     def dual_bound(self) -> float:
@@ -178,7 +160,7 @@ class Portfolio:
         """
         if strategy.has_ended:
             return None
-        began, until = self.deadline.spent(), self.until(budget)
+        began, until = self.deadline.spent(), self.clock.until(budget)
         strategy.turn_began = began
         try:
             found = strategy.search.resume(until, most_nodes)
@@ -202,7 +184,7 @@ class Portfolio:
     def _improve(self, found: ImprovedIncumbent) -> None:
         """Makes the value of a better point that of all strategies and cuts to come."""
         self.objective = ObjectiveCutoff(self.program, found.value, self.lattice)
-        self.cut_loop.set_objective(self.objective)
+        self.preparer.cut_loop.set_objective(self.objective)
         for strategy in self.strategies:
             if not strategy.has_ended:
                 strategy.worse_nodes = strategy.search.search.nodes
@@ -244,14 +226,14 @@ class Portfolio:
         Returns:
             A point that is found where there is to be none; else None.
         """
-        self.started = self.deadline.spent()
-        improved = self.resume(self.begin(PLAIN), self.seconds_left(), FIRST_NODES)
+        self.clock.restart()
+        improved = self.resume(self.begin(PLAIN), self.clock.seconds_left(), FIRST_NODES)
         while improved is None and self._goes_on():
             live = [strategy for strategy in self.strategies if not strategy.has_ended]
             first = self._likely_first(live)
             seconds = self.time_for_others(first)
-            preparing = max(seconds, self.time_for_cuts())
-            if self._is_preparation_due(preparing):
+            preparing = max(seconds, self.preparer.time_for_cuts())
+            if self.preparer.is_due(preparing):
                 self._prepare(preparing)
             elif first is None:
                 break
@@ -274,7 +256,7 @@ class Portfolio:
         improved = None
         while (
             improved is None
-            and self.seconds_left() > 0
+            and self.clock.seconds_left() > 0
             and self.deadline.to_find().left() > PLAIN_RESERVE_SECONDS
             and not strategy.has_ended
         ):
@@ -291,27 +273,11 @@ class Portfolio:
         first = next((s for s in self.strategies if s.tree is self.best is not None), None)
         if first is None or first.worse_nodes < WORSE_SHARE * first.search.search.nodes:
             return
-        seconds = min(self.seconds_so_far(), self.seconds_left())
+        seconds = min(self.clock.seconds_so_far(), self.clock.seconds_left())
         if seconds > 0 and not self.deadline.is_interrupted:
             again = self.begin(first.name, first.cuts, first.forms)
             again.search.reports_progress = first.search.reports_progress
             self.resume(again, seconds)
-
-    def seconds_left(self) -> float:
-        """For strategies: what is left of the deadline but for RESERVE of all its seconds, which is
-        for a bound. May be negative; infinite without a limit."""
-        if self.deadline.seconds == math.inf:
-            return math.inf
-        return self.deadline.left() - RESERVE * self.deadline.seconds
-
-    def until(self, budget: float) -> float:
-        """The second of the deadline after this budget of seconds, as far as there is time; now
-        where there is none."""
-        return self.deadline.spent() + max(0.0, min(budget, self.seconds_left()))
-
-    def seconds_so_far(self) -> float:
-        """Since `started`, of all strategies and of what is prepared."""
-        return self.deadline.spent() - self.started
 
     def time_for_others(self, first: Optional[Strategy]) -> float:
         """Seconds that may go now to what is not the first strategy; negative where it had more
@@ -327,24 +293,11 @@ class Portfolio:
         """
         if first is None:
             return math.inf
-        total = self.seconds_so_far()
+        total = self.clock.seconds_so_far()
         rest = min(first.estimated_seconds(), FARTHEST_FORECAST * total)
         others = total - first.spent
         seconds = min(OTHERS_SHARE * (total + rest) - others, rest / 2)
         return max(seconds, FIRST_CUT_SECONDS - others) if self.has_no_value else seconds
-
-    def time_for_cuts(self) -> float:
-        """Seconds that may go now to cuts alone, whatever other strategies took: CUTS_SHARE of all,
-        less what was made; minus infinity where that is not enough for a round of them.
-
-        A round is LEAST_ROUND_SECONDS, and twice as long after each that was in vain.
-        """
-        preparation = self.preparation
-        if preparation.names[:1] == [THIN]:
-            return -math.inf
-        seconds = CUTS_SHARE * self.seconds_so_far() - preparation.seconds
-        is_enough = seconds >= LEAST_ROUND_SECONDS * 2**preparation.vain_attempts
-        return seconds if is_enough else -math.inf
 
     def take_turn(
         self, strategy: Strategy, first: Strategy, seconds_for_others: float
@@ -358,9 +311,9 @@ class Portfolio:
         a better point, where one was found.
         """
         estimate = strategy.estimated_seconds()
-        spent = strategy.spent / 2 if self.preparation.is_fruitful() else strategy.spent
+        spent = strategy.spent / 2 if self.preparer.preparation.is_fruitful() else strategy.spent
         seconds = max(min(spent, 2 * estimate), TURN_SECONDS)
-        seconds = min(seconds, self.end - self.seconds_so_far())
+        seconds = min(seconds, self.end - self.clock.seconds_so_far())
         if strategy is not first:
             seconds = min(seconds, seconds_for_others)
         improved = self.resume(strategy, seconds)
@@ -466,8 +419,8 @@ class Portfolio:
             times, more = LARGE_TREE_TIMES, 0.0
             if self.shortens:
                 times, more = SHORTER_TIMES, SHORTER_SECONDS
-            self.end = min(self.end, (1 + times) * self.seconds_so_far() + more)
-        seconds = min(self.seconds_left(), self.end - self.seconds_so_far())
+            self.end = min(self.end, (1 + times) * self.clock.seconds_so_far() + more)
+        seconds = min(self.clock.seconds_left(), self.end - self.clock.seconds_so_far())
         return seconds > 0 and not self.deadline.is_interrupted
 
     def _likely_first(self, live: Sequence[Strategy]) -> Optional[Strategy]:
@@ -478,128 +431,21 @@ class Portfolio:
             for strategy in live
             if self.end == math.inf
             or not strategy.spent
-            or strategy.estimated_seconds() < self.end - self.seconds_so_far()
+            or strategy.estimated_seconds() < self.end - self.clock.seconds_so_far()
         ]
         return min(candidates, key=lambda s: s.estimated_seconds()) if candidates else None
 
-    def _is_preparation_due(self, budget: float) -> bool:
-        """Whether more is made now for a further strategy, in place of a turn.
-
-        It is where no strategy goes on, else for cuts as soon as LEAST_CUT_SECONDS are there, and
-        then LEAST_ROUND_SECONDS: of less than a round of them nothing comes. A lattice comes late, after LATTICE_AFTER_SECONDS of all, but at once where there is no value.
-
-        Args:
-            budget: As `time_for_others` says; infinite where no strategy goes on.
-        """
-        names = self.preparation.names
-        if not names:
-            return False
-        is_lattice = names[0] == THIN
-        if budget == math.inf or self.has_no_value and is_lattice:
-            return True
-        if is_lattice:
-            return budget >= LEAST_CUT_SECONDS and self.seconds_so_far() >= LATTICE_AFTER_SECONDS
-        return budget >= (LEAST_ROUND_SECONDS if self.preparation.seconds else LEAST_CUT_SECONDS)
-
     def _prepare(self, budget: float) -> None:
-        """Makes some seconds of the first preparation; where that is done a strategy begins, if it
-        is worth one.
-
-        A lattice is reduced at once and to its end. Where even the root relaxation has no optimum,
-        no cuts are made.
+        """Makes some seconds of what a further strategy is to have, and begins it where it is done
+        and worth it.
 
         Args:
             budget: Seconds that there are for it.
         """
-        name, began = self.preparation.names[0], self.deadline.spent()
-        if name == THIN:
-            self.preparation.names.pop(0)
-            forms = self._lattice_forms()
-            if forms:
-                strategy = self.begin(THIN, [], forms)
-                strategy.first_estimate = TURN_SECONDS if self.has_no_value else math.inf
-        elif self.cut_loop.solve_relaxation(self._cuts_so_far()) is None:
-            self.preparation.names.pop(0)
-        else:
-            self._make_cuts(name, budget)
-        self.preparation.seconds += self.deadline.spent() - began
-
-    def _cuts_so_far(self) -> Sequence[ProvedCut]:
-        """Those of the last strategy that has some: what is made next stands below them."""
-        return next((s.cuts for s in reversed(self.strategies) if s.cuts), ())
-
-    def _make_cuts(self, name: str, budget: float) -> None:
-        """Makes some seconds of cuts below those that are there: the ones made before, else those
-        of the last strategy with cuts, whose relaxation `cut_loop` has solved.
-
-        They are done when the loop ends by itself or when they are in vain, MIR cuts at once. Then,
-        or when they close ENOUGH_CLOSED of the gap, a strategy begins, where they close at least
-        LEAST_CLOSED_SHARE of it or there is no value to see that by, and the next is prepared. With
-        cliques there is one for each such part of what is left of the gap.
-
-        Args:
-            name: The strategy's, whose kinds of cuts are made.
-            budget: Seconds; not more are taken than so far in all, or FIRST_CUT_SECONDS.
-        """
-        loop, preparation = self.cut_loop, self.preparation
-        root_bound = loop.dual_bound
-        until = self.until(min(budget, max(self.seconds_so_far(), FIRST_CUT_SECONDS)))
-        before = preparation.cuts or self._cuts_so_far()
-        cuts = loop.run(KINDS_OF_CUTS[name], before, until)
-        preparation.add(cuts, loop.closed_share(root_bound))
-        closed_share = preparation.closed_share
-        is_done = not loop.is_over(until) or preparation.is_in_vain()
-        if not is_done and closed_share < ENOUGH_CLOSED[name]:
-            return
-        if is_done or not self._takes_more_cuts(name):
-            preparation.names.pop(0)
-        if cuts and (closed_share >= LEAST_CLOSED_SHARE or self.has_no_value):
-            estimate = self._estimate_below_cuts(closed_share)
-            self.begin(name, cuts).first_estimate = estimate
-        preparation.begin_next()
-
-    def _takes_more_cuts(self, name: str) -> bool:
-        """Whether behind the strategy that is prepared another one of this name may come, below
-        more cuts."""
-        count = sum(bool(strategy.cuts) for strategy in self.strategies)
-        return name == CLIQUE and count < MOST_STRATEGIES_BELOW_CUTS
-
-    def _estimate_below_cuts(self, closed_share: float) -> float:
-        """Seconds that a search below cuts seems to take, which close such a share of the gap that
-        the cuts before them left.
-
-        The size of a tree is taken to be exponential in the gap: of one with N nodes it is N to the
-        power of what is left of the gap. Seconds and N are those of another strategy, of which
-        something is known. A turn is the least, so that the first one tells nothing of later ones.
-        """
-        if self.has_no_value:
-            return TURN_SECONDS
-        known = [s for s in self.strategies if not s.cuts or s.spent]
-        other = min(known, key=lambda s: s.estimated_seconds())
-        seconds = min(other.estimated_seconds(), FARTHEST_FORECAST * self.seconds_so_far())
-        share = math.pow(other.estimated_nodes(), -min(max(closed_share, 0.0), 1.0))
-        return max(seconds * max(share, LEAST_SHARE_BELOW_CUTS), TURN_SECONDS)
-
-    def _lattice_forms(self) -> List[Dict[int, int]]:
-        """The forms to branch on beside columns, as whole coefficients by column; none unless all
-        columns are integer and at most MOST_LATTICE_COLUMNS.
-
-        Where the objective has a lattice, its own form counts too, with the width between the last
-        relaxation of `cut_loop` and the value, in spacings of the lattice; before that relaxation
-        has an optimum there are no forms.
-        """
-        program, lattice = self.program, self.lattice
-        is_integer = program.is_integer
-        if not all(is_integer) or sum(is_integer) > MOST_LATTICE_COLUMNS:
-            return []
-        if lattice is None:
-            return [] if any(program.costs) else thin_directions(program)
-        bound = self.cut_loop.dual_bound
-        if math.isinf(bound):
-            return []
-        steps = (bound - float(program.constant_fraction)) / float(lattice.spacing)
-        width = Fraction(max(self.objective.rhs - steps, 0.5))
-        return thin_directions(program, lattice.coefficients, width)
+        made = self.preparer.prepare(self.strategies, budget)
+        if made is not None:
+            strategy = self.begin(made.name, made.cuts, made.forms)
+            strategy.first_estimate = made.first_estimate
 
 
 def _next_turn(live: Sequence[Strategy], first: Strategy, budget: float) -> Strategy:

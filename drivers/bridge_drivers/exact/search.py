@@ -350,7 +350,11 @@ class BranchAndBound:
             x = self._exact_values(x)
         values = self._with_forms(x)
         distances = self._distances(values)
-        fractional = [j for j, distance in distances.items() if distance > self._tolerance(j)]
+        fractional = [
+            j
+            for j, distance in distances.items()
+            if distance > self._tolerance(j) and not self._is_settled(j)
+        ]
         if fractional and fractional[0] < self.program.n:
             relaxed = Relaxed(values, bound, max(self.cutoff_value - bound, LEAST_GAP))
             column, direction = self.branching.choose(self.node, relaxed, fractional)
@@ -360,6 +364,14 @@ class BranchAndBound:
             if improved is not None:
                 return improved
         return self._fathom_integer_point(x, distances, bound, state)
+
+    def _is_settled(self, column: int) -> bool:
+        """Whether a column, not a form, is fixed at a whole number in the node: beside a large
+        coefficient CLP may still have it at another value, and branching would not move that."""
+        if column >= self.program.n:
+            return False
+        lower, upper = (bounds[column] for bounds in self.node.box)
+        return lower is not None and lower == upper and lower % self.program.bound_scale == 0
 
     def _tolerance(self, column: int) -> float:
         """How far from an integer the value of a column or form counts as one.

@@ -23,6 +23,7 @@ KEPT_SECONDS = 2.5  # of these, to judge what is known when the limit comes
 LEAST_VERDICT_SECONDS = 0.1
 LARGEST_LOAD = 25.0  # seconds of the wall, that one of the processor takes at most
 INTERRUPT_SECONDS = 1.0  # after an interrupt, until a step without nodes ends, too
+RESERVE = 0.07  # of the limit of all seconds, for a bound
 
 
 class SearchProgress(NamedTuple):
@@ -194,6 +195,40 @@ class SearchDeadline(Deadline):
     def _tell(self, progress: SearchProgress) -> None:
         if self.on_progress is not None:
             self.on_progress(progress)
+
+
+class RaceClock:
+    """The seconds of one portfolio, by the clock of its deadline.
+
+    Attributes:
+        deadline: That of all searches.
+        started: The second of the deadline at which the race began.
+    """
+
+    def __init__(self, deadline: SearchDeadline) -> None:
+        """The race begins now, or when it is restarted."""
+        self.deadline = deadline
+        self.started = deadline.spent()
+
+    def restart(self) -> None:
+        """The race begins now."""
+        self.started = self.deadline.spent()
+
+    def seconds_so_far(self) -> float:
+        """Since the race began, of all strategies and of what is prepared."""
+        return self.deadline.spent() - self.started
+
+    def seconds_left(self) -> float:
+        """For strategies: what is left of the deadline but for RESERVE of all its seconds, which is
+        for a bound. May be negative; infinite without a limit."""
+        if self.deadline.seconds == math.inf:
+            return math.inf
+        return self.deadline.left() - RESERVE * self.deadline.seconds
+
+    def until(self, budget: float) -> float:
+        """The second of the deadline after this budget of seconds, as far as there is time; now
+        where there is none."""
+        return self.deadline.spent() + max(0.0, min(budget, self.seconds_left()))
 
 
 def _with_grace(limit: float) -> float:

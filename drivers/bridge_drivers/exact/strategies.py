@@ -1,6 +1,6 @@
 """The strategies of a portfolio as values: a search with what it took, and what is made for others.
 
-`portfolio` runs them in turns. Seconds are those of the deadline's clock.
+`portfolio` runs them in turns, `preparing` makes what they begin with. Seconds are those of the deadline's clock.
 """
 
 from __future__ import annotations
@@ -27,6 +27,8 @@ LEAST_CLOSED_SHARE = 0.01  # of the gap, for cuts to be worth a strategy
 LEAST_ATTEMPT_SHARE = 0.03  # of the gap, that an attempt to make cuts is to close
 MOST_VAIN_ATTEMPTS = 10  # to make cuts that close more
 LEAST_ESTIMATE = 1e-9  # seconds
+TURN_SECONDS = 0.25  # that a turn has at least
+FARTHEST_FORECAST = 2.0  # times the seconds so far: later ends of the first strategy count as this
 
 
 class TreeText(NamedTuple):

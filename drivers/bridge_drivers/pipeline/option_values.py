@@ -9,6 +9,7 @@ from __future__ import annotations
 import math
 import os
 import shlex
+from dataclasses import replace
 from fractions import Fraction
 from typing import Any, Callable, Dict, List, Mapping, NamedTuple, Sequence
 
@@ -25,6 +26,7 @@ PRINTED_DUALS = 4
 MOST_OBJECTIVES = 1 << 32  # that the proved program counts
 MOST_PROCESSES = 1024  # and threads: what a word asks for by mistake is not started
 LONGEST_LIMIT = 1e9  # seconds, of 31 years: a longer limit is this one
+CERTIFY_SOLVER_SECONDS = 60.0  # of the solver of bridge-certify, where nothing is said of a limit
 
 
 class Kind(NamedTuple):
@@ -302,6 +304,17 @@ def run_settings(solver: str, values: Mapping[str, Any]) -> RunSettings:
     outputs = OutputSettings(writes_sol, get("solution", ""), bool(get("overwrite")))
     has_values, has_duals = bool(wanted & PRINTED_VALUES), bool(wanted & PRINTED_DUALS)
     return RunSettings(settings, outputs, has_values, has_duals, bool(get("only")))
+
+
+def certify_settings(wanted: RunSettings) -> RunSettings:
+    """The settings of bridge-certify where nothing is said of a limit: only the solver has one by
+    the clock, so that what is proved does not depend on what else the machine does.
+
+    Args:
+        wanted: Those without a limit of the run.
+    """
+    settings = replace(wanted.settings, solver_seconds=CERTIFY_SOLVER_SECONDS)
+    return wanted._replace(settings=settings)
 
 
 def _certificate_settings(values: Mapping[str, Any]) -> CertificateSettings:

@@ -51,6 +51,7 @@ class Settings:
         solver_settings: What the solver is asked; its limit of time is a share of `time_limit`.
         time_limit: Seconds of the whole run, which `time_shares` divides; 0 for no limit, but of
             the search for a certificate, and infinite for none at all.
+        solver_seconds: Of the solver, where the run has no limit; 0 for none.
         certificate: What is asked of the search for a certificate.
         objective: Which objective of the model, from 0.
         round_integers: Values of integer variables within 1e-5 of a whole number become that number.
@@ -72,6 +73,7 @@ class Settings:
     bridge: str = ""
     solver_settings: SolverSettings = field(default_factory=SolverSettings)
     time_limit: float = 0.0
+    solver_seconds: float = 0.0
     certificate: CertificateSettings = field(default_factory=CertificateSettings)
     objective: int = 0
     round_integers: bool = True

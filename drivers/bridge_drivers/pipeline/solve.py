@@ -144,7 +144,10 @@ class SolveRun:
     def __post_init__(self) -> None:
         self.solver = SOLVERS[self.settings.solver]
         self.shares = TimeShares.of_limit(
-            self.settings.time_limit, self.monitor.began, proves=self.settings.certificate.prove
+            self.settings.time_limit,
+            self.monitor.began,
+            proves=self.settings.certificate.prove,
+            solver_seconds=self.settings.solver_seconds,
         )
 
     def find_bridge(self) -> Bridge:

@@ -29,16 +29,20 @@ class TimeShares:
     Attributes:
         deadline: Of the whole run; endless where it has no limit.
         proves: A certificate is searched for after the solver.
+        solver_seconds: Of the solver, where the run has no limit; 0 for none.
         given: The seconds of the wall that the stages were given, by their names in a message:
             the last ones of each stage.
     """
 
     deadline: Deadline
     proves: bool = False
+    solver_seconds: float = 0.0
     given: Dict[str, float] = field(default_factory=dict)
 
     @classmethod
-    def of_limit(cls, limit: float, began: float, *, proves: bool) -> TimeShares:
+    def of_limit(
+        cls, limit: float, began: float, *, proves: bool, solver_seconds: float = 0.0
+    ) -> TimeShares:
         """The shares of a run.
 
         Args:
@@ -46,8 +50,9 @@ class TimeShares:
                 at all.
             began: When the run began, by the monotonic clock.
             proves: A certificate is searched for after the solver.
+            solver_seconds: As the attribute.
         """
-        return cls(Deadline.of_limit(limit, began), proves)
+        return cls(Deadline.of_limit(limit, began), proves, solver_seconds)
 
     def has_limit(self) -> bool:
         """Whether the run has a limit."""
@@ -59,13 +64,17 @@ class TimeShares:
         It is what is left, less VERDICT_SHARE, and of that one half where a certificate is searched
         for. A solver that does not end by itself is killed GRACE_SECONDS later, or when the limit
         of the run comes if that is later, but at the latest a tenth and GRACE_SECONDS after its
-        share.
+        share. Where the run has no limit it is `solver_seconds`.
 
         Args:
             title: Of the solver, for `words`.
         """
-        if not self.has_limit():
+        if not self.has_limit() and not self.solver_seconds:
             return SolverTime()
+        if not self.has_limit():
+            self.given[title] = self.solver_seconds
+            latest = self.solver_seconds * (1 + VERDICT_SHARE) + GRACE_SECONDS
+            return SolverTime(self.solver_seconds, Deadline(latest))
         left = max(self.deadline.left(), 0.0)
         share = left * (1 - VERDICT_SHARE) * (1 - SEARCH_SHARE if self.proves else 1.0)
         share = max(share, LEAST_SOLVER_SECONDS)
@@ -104,12 +113,14 @@ class TimeShares:
     def words(self) -> str:
         """How the limit was divided, in a line for a message; "" where there was none.
 
-        For example `timelim=60: CBC had 27 s, the certificate 31.2 s`.
+        For example `timelim=60: CBC had 27 s, the certificate 31.2 s`, and where nothing was said
+        of a limit `without timelim: CBC had 60 s`.
         """
-        if not self.has_limit() or not self.given:
+        if not self.given:
             return ""
         shares = [f"{stage} had {_rounded(share)} s" for stage, share in self.given.items()]
-        return f"timelim={self.deadline.seconds:g}: {', '.join(shares)}"
+        limit = f"timelim={self.deadline.seconds:g}" if self.has_limit() else "without timelim"
+        return f"{limit}: {', '.join(shares)}"
 
 
 def _rounded(share: float) -> str:

@@ -3,6 +3,7 @@
 from __future__ import annotations
 
 import itertools
+import math
 import random
 from fractions import Fraction as F
 from typing import (
@@ -411,6 +412,120 @@ def chains(rng: random.Random) -> Parts:
     return Parts(columns, rows, way, {n - 1: 1}, least if way == "min" else most)
 
 
+def either_or(rng: random.Random) -> Parts:
+    """A sum that is at most one side or at least another one, by a binary column with an M."""
+    large, n = 10 ** rng.randint(3, 12), rng.randint(1, 2)
+    free: List[Column] = [("C", 0, rng.randint(20, 99)) for _ in range(n)]
+    parts = terms(rng, n, 1, 5)
+    low = rng.randint(1, 9)
+    high = low + rng.randint(1, 60)
+    rows: List[Row] = [
+        (None, low, {**parts, n: -large}),  # at 0 the sum is at most `low`
+        (high - large, None, {**parts, n: -large}),  # at 1 it is at least `high`
+        (low + rng.choice([F(-1), F(1, 10**3), F(1, 10**6)]), None, dict(parts)),
+    ]
+    costs = {**{j: rng.randint(1, 9) for j in range(n)}, n: rng.randint(0, 5)}
+    return Parts([*free, ("I", 0, 1)], _with_decimals(rows), rng.choice(["min", "max"]), costs)
+
+
+def _with_decimals(rows: Sequence[Row]) -> List[Row]:
+    def text(side: Optional[Number]) -> Optional[Number]:
+        return decimal(side) if isinstance(side, F) else side
+
+    return [(text(low), text(high), row) for low, high, row in rows]
+
+
+def wide_sequences(rng: random.Random) -> Parts:
+    """Jobs on one machine, each with a number of its own that is large, up to 1e12."""
+    n = rng.randint(2, 4)
+    lasts = [rng.randint(1, 9) for _ in range(n)]
+    weights = [rng.randint(1, 9) for _ in range(n)]
+    pairs = [(i, k) for i in range(n) for k in range(i)]
+    columns: List[Column] = [("C", 0, rng.choice([None, sum(lasts)])) for _ in range(n)]
+    columns += [("I", 0, 1) for _ in pairs]
+    rows: List[Row] = []
+    for order, (i, k) in enumerate(pairs, n):
+        one, other = (10 ** rng.randint(3, 12) for _ in range(2))
+        rows.append((lasts[k], None, {i: 1, k: -1, order: one}))  # at 0 the job k is first
+        rows.append((lasts[i] - other, None, {k: 1, i: -1, order: -other}))
+    best = min(
+        sum(weights[j] * sum(lasts[i] for i in jobs[:place]) for place, j in enumerate(jobs))
+        for jobs in itertools.permutations(range(n))
+    )
+    return Parts(columns, rows, "min", dict(enumerate(weights)), F(best))
+
+
+def diophantine(rng: random.Random) -> Parts:
+    """a x - b y = c with numbers of 3 to 10 digits: the least x, by the inverse of a modulo b, or none."""
+    digits = rng.randint(3, 10)
+    common = rng.choice([1, 1, 1, rng.randint(2, 9)])
+    a, b = (common * rng.randint(10 ** (digits - 1), 10**digits) for _ in range(2))
+    divisor = math.gcd(a, b)
+    side = rng.choice([1, -1, rng.randint(1, b), divisor * rng.randint(1, 99)])
+    columns: List[Column] = [("I", 0, rng.choice([None, 10 * b])), ("I", 0, None)]
+    rows: List[Row] = [(side, side, {0: a, 1: -b})]
+    if side % divisor:
+        return Parts(columns, rows, "min", {0: 1}, None)
+    period = b // divisor
+    least = side // divisor * pow(a // divisor, -1, period) % period if period > 1 else 0
+    while a * least < side:  # y is not below 0
+        least += period
+    return Parts(columns, rows, "min", {0: 1}, F(least))
+
+
+def whole_systems(rng: random.Random) -> Parts:
+    """As many equations of large whole numbers as columns; their one point is whole, or it is not."""
+    n, size = rng.randint(2, 4), 10 ** rng.randint(2, 6)
+    while True:
+        rows = [[F(rng.randint(-size, size)) for _ in range(n)] for _ in range(n)]
+        at = [F(rng.randint(0, 9)) for _ in range(n)]
+        sides = [dot(row, at) for row in rows]
+        sides[0] += rng.choice([0, 0, 1])
+        point = crossing(list(zip(rows, sides)))
+        if point is not None:
+            break
+    costs = [F(rng.randint(-9, 9)) for _ in range(n)]
+    made = [(decimal(side), decimal(side), decimals(row)) for row, side in zip(rows, sides)]
+    is_there = all(v.denominator == 1 and 0 <= v <= 10**4 for v in point)
+    best = dot(costs, point) if is_there else None
+    return Parts([("I", 0, 10**4)] * n, made, sense(rng), decimals(costs), best)
+
+
+def huge_equations(rng: random.Random) -> Parts:
+    """Beside a coefficient of some 1e20 the rest of an equation is nothing to a double."""
+    size = rng.choice([5 * 10**19, 10**20 - 1, 10**20, 2 * 10**20 + 3, 10**24])
+    at, rest = rng.randint(1, 9), rng.randint(0, 30)
+    step = rng.randint(1, 5)
+    most, room = rng.randint(1, 9), rng.choice([0, step - 1])
+    columns: List[Column] = [("I", 0, 12), ("I", 0, most)]
+    low, y = at * size + rest, -(-rest // step)  # the first column is `at`, the other one y
+    is_there = y <= most and (room == step - 1 or rest % step == 0)
+    rows: List[Row] = [(low, low + room, {0: size, 1: step})]
+    return Parts(columns, rows, sense(rng), {0: 1, 1: 1}, F(at + y) if is_there else None)
+
+
+def whole_chains(rng: random.Random) -> Parts:
+    """x' = 3.7 x - 0.27 from a tenth of a whole column on: 0.1 stays where it is, all else goes far."""
+    n, most = rng.randint(6, 38), rng.randint(1, 5)
+    up, step = rng.choice([("3.7", "0.27"), ("2.9", "0.19"), ("6.1", "0.51")])
+    sides = [F(-(10**6)), F(0), F(1, 10), F(1, 10) + off(rng), F(1), F(10**9)]
+    ends = [rng.choice(sides) for _ in range(2)]
+    columns: List[Column] = [("C", None, None) for _ in range(n - 1)]
+    columns += [("C", decimal(min(ends)), decimal(max(ends))), ("I", 0, most)]
+    rows: List[Row] = [(0, 0, {0: 10, n: -1})]
+    rows += [(f"-{step}", f"-{step}", {k + 1: 1, k: f"-{up}"}) for k in range(n - 1)]
+    found = []
+    for first in range(most + 1):
+        at = F(first, 10)
+        for _ in range(n - 1):
+            at = F(up) * at - F(step)
+        if min(ends) <= at <= max(ends):
+            found.append(first)
+    way = sense(rng)
+    best = min(found, default=None) if way == "min" else max(found, default=None)
+    return Parts(columns, rows, way, {n: 1}, None if best is None else F(best))
+
+
 KINDS: Sequence[Callable[[random.Random], Parts]] = (
     equal_decimals,
     near_sides,
@@ -435,6 +550,12 @@ KINDS: Sequence[Callable[[random.Random], Parts]] = (
     huge_numbers,
     remainders,
     chains,
+    either_or,
+    wide_sequences,
+    diophantine,
+    whole_systems,
+    huge_equations,
+    whole_chains,
 )
 
 

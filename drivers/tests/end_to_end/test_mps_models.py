@@ -205,3 +205,34 @@ def test_import_against_the_program(workspace: Workspace) -> None:
     assert lines[at : at + 6] == ["2 0", "2 0", "0 0 1", "0 0 1", "0 0 9", "1 -1"]
     names = workspace.read("m.col").decode().split()
     assert names == ["c", "'MARKER'", "b", "v", "i", "low"]
+
+
+UNBOUNDED_MARKED = """NAME m
+ROWS
+ N cost
+ {sense} cap
+COLUMNS
+ M1 'MARKER' 'INTORG'
+ x cost {cost} cap 1
+ M2 'MARKER' 'INTEND'
+RHS
+ RHS cap {side}
+ENDATA
+"""
+
+
+@pytest.mark.needs("program", "cbc")
+@pytest.mark.parametrize(
+    "sense, cost, side, optimum",
+    [("L", -1, "5.5", "-5"), ("G", 1, "2.5", "3"), ("L", -2, 9, "-18")],
+)
+def test_whole_columns_without_bounds(
+    workspace: Workspace, sense: str, cost: int, side: object, optimum: str
+) -> None:
+    """They have no upper end here; the message says that they end at 1 for cbc and glpsol."""
+    workspace.write("m.mps", UNBOUNDED_MARKED.format(sense=sense, cost=cost, side=side))
+    told = workspace.run("bridge-cbc", "m.mps").out
+    assert f"\noptimal {optimum}\n" in told
+    assert "\nwhole columns without bounds go from 0 on: x; cbc and glpsol, where they" in told
+    own = workspace.run_process(["cbc", "m.mps", "-solve", "-quit"]).out
+    assert f"Objective value:  {float(optimum):15.8f}" not in own

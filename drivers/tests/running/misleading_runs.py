@@ -4,7 +4,7 @@ from __future__ import annotations
 
 from dataclasses import dataclass
 from fractions import Fraction
-from typing import Sequence
+from typing import Optional, Sequence
 
 from builders.misleading import Misleading
 from running.places import MIXED_INTEGER_SOLVERS
@@ -12,7 +12,9 @@ from running.sol_file import SolFile
 from running.workspace import Workspace
 
 SOLVED = 0
+FAILED = -1  # in place of a code
 INFEASIBLE, UNBOUNDED = 200, 300
+NO_BRIDGE = 503
 CODES = {"infeasible": INFEASIBLE, "unbounded": UNBOUNDED}  # of last lines
 PROVED = ("optimal", "within")  # first words of last lines that have code 0 with prove=1
 
@@ -52,19 +54,53 @@ def judge_run(
         options: of the first run, which has more than a second for a certificate.
         own_options: of the second one.
     """
+    return judge_runs(workspace, driver, model, [options], own_options)[0]
+
+
+def judge_runs(
+    workspace: Workspace,
+    driver: str,
+    model: Misleading,
+    ways: Sequence[Sequence[str]],
+    own_options: Sequence[str] = (),
+) -> Sequence[JudgedRun]:
+    """The same of several runs, by their options; what the solver itself answered is asked for once."""
     workspace.write("m.nl", model.text())
-    command, words = "bridge-" + driver, ["m", "-AMPL", "-e"]
-    ended = workspace.run(command, *words, *options, without=["hurry"])
-    if ended.status != 0:
-        return JudgedRun(-1, f"it ended with {ended.status}")
-    sol = SolFile(workspace.path("m.sol"))
-    wrong = fault_of(model, sol, options)
-    if wrong:
-        return JudgedRun(sol.code, f"{wrong} ({sol.last_line})", "", sol.last_line)
-    ended = workspace.run(command, *words, "check=0", *own_options)
+    found = [_judged(workspace, driver, model, options) for options in ways]
+    if not any(run.sol is not None and not run.wrong for run in found):
+        return [run.judged() for run in found]
+    ended = workspace.run("bridge-" + driver, "m", "-AMPL", "-e", "check=0", *own_options)
     own = SolFile(workspace.path("m.sol")) if ended.status == 0 else None
-    lost = "" if own is None else lost_answer(model, own, sol)
-    return JudgedRun(sol.code, "", lost, sol.last_line)
+    return [run.judged(_lost_by(model, own, run)) for run in found]
+
+
+@dataclass(frozen=True)
+class _Run:
+    """What came of one run: its .sol, None where the driver failed, and what is wrong with it."""
+
+    sol: Optional[SolFile]
+    wrong: str
+
+    def judged(self, lost: str = "") -> JudgedRun:
+        """With what is lost, which nothing is of what is wrong."""
+        if self.sol is None:
+            return JudgedRun(FAILED, self.wrong)
+        wrong = f"{self.wrong} ({self.sol.last_line})" if self.wrong else ""
+        return JudgedRun(self.sol.code, wrong, "" if wrong else lost, self.sol.last_line)
+
+
+def _judged(workspace: Workspace, driver: str, model: Misleading, options: Sequence[str]) -> _Run:
+    words = ["m", "-AMPL", "-e", *options]
+    workspace.path("m.sol").unlink(missing_ok=True)
+    ended = workspace.run("bridge-" + driver, *words, without=["hurry"])
+    if ended.status != 0:
+        return _Run(None, f"it ended with {ended.status}")
+    sol = SolFile(workspace.path("m.sol"))
+    return _Run(sol, fault_of(model, sol, options))
+
+
+def _lost_by(model: Misleading, own: Optional[SolFile], run: _Run) -> str:
+    return "" if own is None or run.sol is None else lost_answer(model, own, run.sol)
 
 
 def fault_of(model: Misleading, sol: SolFile, options: Sequence[str] = ()) -> str:
@@ -74,6 +110,8 @@ def fault_of(model: Misleading, sol: SolFile, options: Sequence[str] = ()) -> st
     """
     if "a fault of the driver" in sol.text:
         return "a fault of the driver"
+    if sol.code == NO_BRIDGE:
+        return "the proved program did not run"
     if not sol.has_allowed_code():
         return "no code above this line"
     if sol.code == SOLVED and "prove=1" in options and sol.last_line.split()[0] not in PROVED:

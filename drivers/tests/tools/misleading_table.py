@@ -6,8 +6,8 @@
 BRIDGE names the proved program. Each model goes through each driver as it comes, and with `prove=1`;
 `prove=0` or `prove=1` says which alone, `each=2` takes two models of each kind (28), `time=60` gives
 a run sixty seconds (10), `workers=2` runs two at a time (4). `log=FILE` gets a line for each run, and
-what stands there is not run again. A line for each wrong or lost answer, and one for each driver: how
-many end with which code. The status is 1 where one is wrong.
+what stands there is not run again. A line for each wrong or lost answer, and two for each driver: how
+many end with which code. The status is 1 where one is wrong, 2 where nothing can be run.
 """
 
 from __future__ import annotations
@@ -19,19 +19,20 @@ import os
 import sys
 import tempfile
 import time
-from concurrent.futures import ThreadPoolExecutor, as_completed
+from concurrent.futures import ProcessPoolExecutor, as_completed
 from pathlib import Path
-from typing import Dict, List, Mapping, Sequence, TextIO
+from typing import Dict, List, Mapping, Sequence, TextIO, Tuple
 
 TESTS = Path(__file__).resolve().parent.parent
 sys.path.insert(0, str(TESTS))
 
 from builders.misleading import Misleading  # noqa: E402
 from builders.misleading_kinds import EACH, models  # noqa: E402
-from running.misleading_runs import JudgedRun, judge_run, takes  # noqa: E402
+from running.forked_runs import forked_workspace  # noqa: E402
+from running.misleading_runs import JudgedRun, judge_runs, takes  # noqa: E402
 from running.places import SOLVERS, why_missing  # noqa: E402
-from running.workspace import Workspace  # noqa: E402
 
+NOTHING_RUN = 2  # the status
 DEFAULTS = {"each": str(EACH), "time": "10", "workers": "4", "log": os.devnull}
 
 
@@ -51,17 +52,45 @@ def main() -> int:
         for model in models(int(own["each"]))
         if not kinds or model.name.rstrip("0123456789") in kinds
     ]
+    if why_missing("program") or not chosen:
+        print(why_missing("program") or "no such model")
+        return NOTHING_RUN
     print(_sizes(chosen), flush=True)
+    asked = Asked(ways, int(own["time"]), more, int(own["workers"]))
     wrong = 0
     with open(own["log"], "a+", encoding="utf-8") as log:
         known = _known(log)
         for driver in [word for word in words if word in SOLVERS] or SOLVERS:
-            for way in ways if not why_missing(driver) else ():
+            if not why_missing(driver):
                 taken = [model for model in chosen if takes(driver, model)]
-                asked = [f"prove={way}", f"timelim={own['time']}", *more]
-                wrong += _run_all(driver, taken, asked, int(own["workers"]), known, log)
+                wrong += _run_all(driver, taken, asked, known, log)
     print(f"{wrong} wrong")
     return int(wrong > 0)
+
+
+@dataclasses.dataclass(frozen=True)
+class Asked:
+    """What is asked for of all runs.
+
+    Attributes:
+        ways: values of `prove`.
+        seconds: of a run.
+        options: of all runs, beside these.
+        workers: runs at a time.
+    """
+
+    ways: Sequence[str]
+    seconds: int
+    options: Sequence[str]
+    workers: int
+
+    def own_options(self) -> List[str]:
+        """Of the run that tells the solver's own answer."""
+        return [f"timelim={self.seconds}", *self.options]
+
+    def key(self, driver: str, way: str, model: Misleading) -> str:
+        """Of a run in the log."""
+        return f"{driver} prove={way} {model.name}"
 
 
 def _sizes(chosen: Sequence[Misleading]) -> str:
@@ -80,35 +109,43 @@ def _known(log: TextIO) -> Dict[str, JudgedRun]:
 def _run_all(
     driver: str,
     chosen: Sequence[Misleading],
-    options: Sequence[str],
-    workers: int,
+    asked: Asked,
     known: Dict[str, JudgedRun],
     log: TextIO,
 ) -> int:
     """Runs what is not known; how many are wrong."""
     began = time.monotonic()
-    keys = {model.name: f"{driver} {options[0]} {model.name}" for model in chosen}
-    own = [option for option in options if not option.startswith("prove=")]
-    with tempfile.TemporaryDirectory(prefix="misleading-") as folder:
+    left = {
+        model.name: [way for way in asked.ways if asked.key(driver, way, model) not in known]
+        for model in chosen
+    }
+    with tempfile.TemporaryDirectory(prefix="misleading-") as folder, ProcessPoolExecutor(
+        asked.workers
+    ) as pool:
+        jobs = [
+            pool.submit(_run, folder, driver, model, left[model.name], asked)
+            for model in chosen
+            if left[model.name]
+        ]
+        for job in as_completed(jobs):
+            for key, judged in job.result():
+                known[key] = judged
+                print(json.dumps([key, *dataclasses.astuple(judged)]), file=log, flush=True)
+    wrong = 0
+    for way in asked.ways:
+        found = {key: known[key] for key in [asked.key(driver, way, model) for model in chosen]}
+        wrong += _told(f"{driver} prove={way} all", found, time.monotonic() - began)
+    return wrong
 
-        def run(model: Misleading) -> JudgedRun:
-            place = Path(folder, model.name)
-            place.mkdir()
-            workspace = Workspace(place, Path(folder, "compiled"))
-            return judge_run(workspace, driver, model, options, own)
 
-        with ThreadPoolExecutor(workers) as pool:
-            jobs = {
-                pool.submit(run, model): keys[model.name]
-                for model in chosen
-                if keys[model.name] not in known
-            }
-            for job in as_completed(jobs):
-                known[jobs[job]] = job.result()
-                fields = dataclasses.astuple(job.result())
-                print(json.dumps([jobs[job], *fields]), file=log, flush=True)
-    found = {key: known[key] for key in keys.values()}
-    return _told(f"{driver} {options[0]} all", found, time.monotonic() - began)
+def _run(
+    folder: str, driver: str, model: Misleading, ways: Sequence[str], asked: Asked
+) -> List[Tuple[str, JudgedRun]]:
+    """The runs of one model, by their keys. Called in a process of the pool."""
+    workspace = forked_workspace(folder, model.name)
+    own = asked.own_options()
+    found = judge_runs(workspace, driver, model, [[f"prove={way}", *own] for way in ways], own)
+    return [(asked.key(driver, way, model), run) for way, run in zip(ways, found)]
 
 
 def _told(heading: str, runs: Mapping[str, JudgedRun], seconds: float) -> int:

@@ -2,9 +2,11 @@
 
 from __future__ import annotations
 
+from types import SimpleNamespace
 from typing import Dict, List
 
 import pytest
+from bridge_drivers.commands.certify import CertifyCommand
 from bridge_drivers.commands.options import (
     CERTIFY_OPTIONS,
     COMMON_OPTIONS,
@@ -15,7 +17,11 @@ from bridge_drivers.commands.options import (
     OptionValues,
     own_options,
 )
-from bridge_drivers.pipeline.option_values import kinds_of
+from bridge_drivers.pipeline.option_values import (
+    CERTIFY_SOLVER_SECONDS,
+    certify_settings,
+    kinds_of,
+)
 from bridge_drivers.solvers import SOLVERS
 from bridge_drivers.system.errors import WrongOption
 
@@ -89,7 +95,7 @@ def test_the_values_of_an_option_in_words() -> None:
     assert known["outlev"].values() == "(0, 1 or 2; 0)"
     assert known["format"].values() == "(free or fixed)"
     assert known["mipgap"].values() == "(a number from 0 to 1; 0)"
-    assert certify_options().known["timelim"].values() == "(a number from 0 on; 120)"
+    assert certify_options().known["timelim"].values() == "(a number from 0 on; 0)"
 
 
 @pytest.mark.parametrize("solver", SOLVERS)
@@ -174,9 +180,25 @@ def test_settings_of_the_solver() -> None:
         values("check=0", "prove=1").run_settings("cbc", writes_sol=False)
 
 
-def test_certify_proves_in_two_minutes() -> None:
-    settings = certify_options().run_settings("cbc", writes_sol=False).settings
-    assert (settings.certificate.prove, settings.time_limit) == (True, 120.0)
+def test_certify_proves_without_a_limit_of_the_run() -> None:
+    """Where nothing is said only the solver has a limit by the clock; with `timelim=0` it has none."""
+    found = certify_options().run_settings("cbc", writes_sol=False)
+    assert (found.settings.certificate.prove, found.settings.time_limit) == (True, 0.0)
+    assert found.settings.solver_seconds == 0.0
+    assert certify_settings(found).settings.solver_seconds == CERTIFY_SOLVER_SECONDS
+
+
+@pytest.mark.parametrize(
+    "words, limit, solver_seconds",
+    [([], 0.0, CERTIFY_SOLVER_SECONDS), (["timelim=0"], 0.0, 0.0), (["timelim=7"], 7.0, 0.0)],
+)
+def test_what_is_said_of_a_limit(words: list[str], limit: float, solver_seconds: float) -> None:
+    command = CertifyCommand("cbc")
+    command.options = certify_options()
+    command.options.take(words)
+    command.call = SimpleNamespace(is_ampl=False, saves=False)  # type: ignore[assignment]
+    settings = command._run_settings().settings
+    assert (settings.time_limit, settings.solver_seconds) == (limit, solver_seconds)
 
 
 EXTREME = [

@@ -132,3 +132,23 @@ def test_dominance(rows: List[dict[int, int]]) -> None:
             wanted[j] = max(wanted[j], a / min(row.values()))
     assert p.dominance == pytest.approx(wanted)
     assert p.with_rows([AddedRow({0: 1, 1: 10**9}, None, 1)]).dominance == pytest.approx(wanted)
+
+
+@NEEDS_CLP
+@pytest.mark.parametrize("digits", [3, 6, 7])
+@pytest.mark.parametrize("power", [6, 9, 10, 12])
+@pytest.mark.parametrize("claim", [AnswerClaim.INFEASIBLE, AnswerClaim.UNKNOWN])
+def test_a_column_that_is_fixed_is_not_branched_on(
+    claim: AnswerClaim, power: int, digits: int
+) -> None:
+    """5 x + y is at most 9 or at least 10, and more than 9 by little: CLP has a column that is fixed
+    at 0 at 1e-15, which times M is as much."""
+    large, side = 10**power, f"9.{1:0{digits}d}"
+    columns = [Column(0, 41, False, 5), Column(0, 42, False, 5), Column(0, 1, True, 5)]
+    either = {0: 5, 1: 1, 2: -large}
+    rows = [
+        Row(None, 9, either),
+        Row(10 - large, None, either),
+        Row(side, None, {0: 5, 1: 1}),
+    ]
+    assert certified(program(columns, rows), claim).line == "optimal 15"

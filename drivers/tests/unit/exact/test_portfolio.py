@@ -14,10 +14,10 @@ from bridge_drivers.exact import portfolio as portfolio_module
 from bridge_drivers.exact.clp import library
 from bridge_drivers.exact.cuts import CutKind, ObjectiveCutoff
 from bridge_drivers.exact.fathoming import Cutoff
-from bridge_drivers.exact.parallel import ParallelSearch
 from bridge_drivers.exact.node import Branch
 from bridge_drivers.exact.parallel import ParallelSearch
-from bridge_drivers.exact.portfolio import TURN_SECONDS, Portfolio
+from bridge_drivers.exact.portfolio import Portfolio
+from bridge_drivers.exact.preparing import CUTS_SHARE
 from bridge_drivers.exact.search import (
     BranchAndBound,
     ImprovedIncumbent,
@@ -25,7 +25,7 @@ from bridge_drivers.exact.search import (
     no_point,
 )
 from bridge_drivers.exact.search_deadline import SearchDeadline, SearchProgress
-from bridge_drivers.exact.strategies import MIR, PLAIN, Preparation, Strategy
+from bridge_drivers.exact.strategies import MIR, PLAIN, TURN_SECONDS, Preparation, Strategy
 from bridge_drivers.exact.tree import Tree
 from bridge_drivers.model.integer_form import IntegerProgram, Point
 from bridge_drivers.system.errors import NodeLimit, SearchEnded
@@ -57,7 +57,7 @@ class After(SearchDeadline):
 
 def after_ten_seconds() -> Portfolio:
     portfolio = Portfolio(KNAPSACK, Fraction(-17), no_point, After())
-    portfolio.started = 0.0
+    portfolio.clock.started = 0.0
     return portfolio
 
 
@@ -205,19 +205,19 @@ def test_a_node_that_never_closes(monkeypatch: pytest.MonkeyPatch) -> None:
 
 def test_time_for_cuts() -> None:
     """A share of all seconds, whatever others took; twice as much at a time where it was in vain."""
-    portfolio = after_ten_seconds()
-    share = 10.0 * portfolio_module.CUTS_SHARE
-    assert portfolio.time_for_cuts() == share
-    portfolio.preparation.seconds = share - 0.1
-    assert portfolio.time_for_cuts() == -math.inf
-    portfolio.preparation.seconds = share - 0.5
-    assert portfolio.time_for_cuts() == pytest.approx(0.5)
-    portfolio.preparation.add([], 0.0)
-    assert portfolio.time_for_cuts() == pytest.approx(0.5)
-    portfolio.preparation.add([], 0.0)
-    assert portfolio.time_for_cuts() == -math.inf
-    portfolio.preparation.names[:] = ["thin"]
-    assert portfolio.time_for_cuts() == -math.inf
+    preparer = after_ten_seconds().preparer
+    share = 10.0 * CUTS_SHARE
+    assert preparer.time_for_cuts() == share
+    preparer.preparation.seconds = share - 0.1
+    assert preparer.time_for_cuts() == -math.inf
+    preparer.preparation.seconds = share - 0.5
+    assert preparer.time_for_cuts() == pytest.approx(0.5)
+    preparer.preparation.add([], 0.0)
+    assert preparer.time_for_cuts() == pytest.approx(0.5)
+    preparer.preparation.add([], 0.0)
+    assert preparer.time_for_cuts() == -math.inf
+    preparer.preparation.names[:] = ["thin"]
+    assert preparer.time_for_cuts() == -math.inf
 
 
 def test_vain_attempts() -> None:
@@ -237,7 +237,7 @@ def test_vain_attempts() -> None:
 def test_trees_below_cuts(p: IntegerProgram, kinds: set[CutKind]) -> None:
     value = minimised_optimum(p)
     portfolio = Portfolio(p, value, no_point, SearchDeadline(60.0))
-    cuts = portfolio.cut_loop.run(frozenset(kinds), [], 30.0)
+    cuts = portfolio.preparer.cut_loop.run(frozenset(kinds), [], 30.0)
     strategy = portfolio.begin("cuts", cuts)
     assert portfolio.resume(strategy, 60.0) is None
     assert strategy.tree is not None, strategy.report
@@ -250,7 +250,7 @@ def test_cliques_refute_pigeons() -> None:
     """Each clique is a chain of disjunctions whose violators are refuted by one leaf."""
     p = PIGEONS.without_costs()
     portfolio = Portfolio(p, None, no_point, SearchDeadline(60.0))
-    cuts = portfolio.cut_loop.run(frozenset({CutKind.CLIQUE}), [], 30.0)
+    cuts = portfolio.preparer.cut_loop.run(frozenset({CutKind.CLIQUE}), [], 30.0)
     strategy = portfolio.begin("cuts", cuts)
     portfolio.resume(strategy, 60.0)
     assert strategy.tree is not None and strategy.tree.nodes <= 2 * 4 * 3 + 1
@@ -289,7 +289,9 @@ def is_bound(p: IntegerProgram, value: Fraction, lines: Iterable[str]) -> bool:
 def test_mir_cuts_of_lots() -> None:
     value = Fraction(143, 10)
     portfolio = Portfolio(LOTS, value, no_point, SearchDeadline(60.0))
-    strategy = portfolio.begin("cuts", portfolio.cut_loop.run(frozenset({CutKind.MIR}), [], 30.0))
+    strategy = portfolio.begin(
+        "cuts", portfolio.preparer.cut_loop.run(frozenset({CutKind.MIR}), [], 30.0)
+    )
     assert portfolio.resume(strategy, 60.0) is None and strategy.tree is not None
     assert "\nlemma " in "\n" + strategy.tree.text
     assert is_bound(LOTS, value, strategy.tree.lines())

@@ -79,6 +79,21 @@ def test_without_a_limit(clock: Clock) -> None:
     assert (shares.words(), shares.for_verdict().left()) == ("", math.inf)
 
 
+def test_a_limit_of_the_solver_alone(clock: Clock) -> None:
+    """The search counts the processor, however long the solver took, and so do verdicts."""
+    shares = TimeShares.of_limit(0.0, BEGAN, proves=True, solver_seconds=60.0)
+    clock.now += 1e6
+    given = shares.for_solver("CBC")
+    assert given.share == 60.0 and given.killed.left() == pytest.approx(71.0)
+    clock.now += 1e6
+    search = shares.for_search()
+    assert (search.seconds, search.of_processor) == (CERTIFICATE_SECONDS, True)
+    assert (shares.words(), shares.for_verdict().left()) == (
+        "without timelim: CBC had 60 s",
+        math.inf,
+    )
+
+
 def test_words(clock: Clock) -> None:
     shares = TimeShares.of_limit(60.0, BEGAN, proves=True)
     assert shares.words() == ""
