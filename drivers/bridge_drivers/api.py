@@ -258,8 +258,12 @@ def _explanation(model: ReadModel, source: Source) -> Explanation:
     Where the program cannot be had in whole numbers, its note says why.
     """
     verdict = model.bridge.verify(model.path, source.path)
-    with open(source.path, encoding="ascii") as lines:
-        certificate = read_certificate(lines)
+    try:
+        with open(source.path, encoding="ascii") as lines:
+            certificate = read_certificate(lines)
+    except (ValueError, IndexError):
+        told = "the program `bridge` is not the proved one: it judged a text that is no certificate"
+        raise ProgramFailed(told) from None
     program, note = None, ""
     try:
         objective = certificate.objective or 0

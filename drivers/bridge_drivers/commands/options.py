@@ -273,7 +273,8 @@ COMMON_OPTIONS: Sequence[Option] = (
         "timelim",
         0.0,
         AMOUNT,
-        "seconds of the whole run, of which prove=1 keeps one half for the certificate; 0: no limit",
+        "seconds of the whole run, of which prove=1 keeps one half for the certificate; "
+        "0: no limit, but the certificate has 60 seconds of the processor",
     ),
     Option(
         "wantsol",

@@ -312,6 +312,34 @@ def answered_within(deadline: Deadline, ask: Callable[[], Any], what: str) -> An
     return answer
 
 
+def connected(address: str, limit: float) -> Any:
+    """A client of Dask's scheduler at an address.
+
+    Args:
+        address: Of the scheduler.
+        limit: Seconds in which Dask's package is read, which is a large one, and the scheduler
+            answers.
+
+    Raises:
+        PoolFailed: There is no package, or no scheduler.
+    """
+
+    def connect() -> Any:
+        """Reads the package here, so that a busy machine does not stretch the limit by it."""
+        return importlib.import_module("distributed").Client(address, timeout=limit)
+
+    try:
+        return answered_within(Deadline(limit), connect, f"the scheduler of Dask at {address}")
+    except ImportError:
+        raise PoolFailed(
+            "cluster= needs Dask's package distributed (Debian: apt install python3-distributed)"
+        ) from None
+    except PoolFailed:
+        raise
+    except Exception as fault:  # of the library, or of an address that it does not understand
+        raise PoolFailed(f"no scheduler of Dask at {address} ({fault})") from None
+
+
 class DaskPool(WorkerPool):
     """Those workers of a cluster that have this package and CLP.
 
@@ -331,20 +359,7 @@ class DaskPool(WorkerPool):
         """Connects to the scheduler, and asks all workers for their version. `workers` becomes the
         threads of those that are fit, and `note` says where others are not."""
         scheduler = f"the scheduler of Dask at {address}"
-        try:
-            distributed: Any = importlib.import_module("distributed")
-            self.client = answered_within(
-                Deadline(limit), lambda: distributed.Client(address, timeout=limit), scheduler
-            )
-        except ImportError:
-            raise PoolFailed(
-                "cluster= needs Dask's package distributed (Debian: apt install "
-                "python3-distributed)"
-            ) from None
-        except PoolFailed:
-            raise
-        except Exception as fault:  # of the library, or of an address that it does not understand
-            raise PoolFailed(f"no scheduler of Dask at {address} ({fault})") from None
+        self.client = connected(address, limit)
         try:
             versions = answered_within(
                 Deadline(limit),
@@ -364,7 +379,7 @@ class DaskPool(WorkerPool):
             )
         if not fit:
             self.close()
-            raise PoolFailed(self.note or f"the scheduler of Dask at {address} has no workers")
+            raise PoolFailed(self.note or f"{scheduler} has no workers")
         self._started = self.client.get_executor(pure=False, workers=fit)
 
     def close(self) -> None:

@@ -146,6 +146,14 @@ class NameLists:
             return comment or f"v{number}"
         return self.column(number) or comment or f"x{number}"
 
+    def note(self) -> str:
+        """Which lists beside the model are too long to be read, in a line for a message; else ""."""
+        long = [self.stub + ending for ending in (ROWS, COLUMNS) if _is_too_long(self.stub, ending)]
+        which = " and ".join(map(os.path.basename, long))
+        return (
+            f"{which}: longer than {MOST_BYTES} bytes, so that no names are taken" if long else ""
+        )
+
     def _name(self, ending: str, number: int) -> str:
         """The name at a place of the list with this ending; "" beyond its end. The list is read
         once.
@@ -162,6 +170,18 @@ class NameLists:
         while lines and not lines[-1].strip():
             lines.pop()
         return _told(lines, ending)
+
+
+def _is_too_long(stub: str, ending: str) -> bool:
+    """Whether the list of names with this ending is a plain file of more than MOST_BYTES.
+
+    Args:
+        stub: The model's path without its ending; "" has no lists.
+    """
+    path = stub + ending
+    with contextlib.suppress(OSError, ValueError):
+        return bool(stub) and os.path.isfile(path) and os.path.getsize(path) > MOST_BYTES
+    return False
 
 
 def _bytes_of_list(path: str) -> bytes:

@@ -374,6 +374,7 @@ class SolveRun:
         with self.monitor.timing("export"):
             program = LinearProgram.of(self.bridge.export(path, self.settings.objective))
         program.own_names = NameLists(self.source.stub)
+        program.notes = [*program.notes, *filter(None, [program.own_names.note()])]
         return program
 
     def _late(self, command: str) -> Outcome:

@@ -7,7 +7,7 @@ from __future__ import annotations
 
 import math
 import time
-from typing import Mapping
+from typing import List, Mapping
 
 VALUES = ("incumbent", "bound", "objective")  # of what is known, those that are told as values
 COUNTS = ("nodes", "open", "iterations", "cuts")  # and those that are told as counts
@@ -56,11 +56,15 @@ class Progress:
         self.tell(progress_words(known))
 
     def words(self) -> str:
-        """The stage, its seconds by now and what is known of it: `cbc, 3 of 60 s, incumbent 17`."""
-        seconds = f"{time.monotonic() - self.began:.0f}"
-        limit = f" of {self.limit:.3g} s" if self.limit else " s"
+        """The stage, its seconds by now and what is known of it: `cbc, 3 of 60 s, incumbent 17`.
+
+        Behind its limit the seconds stand alone: the stage is ending, or its limit is one of the
+        processor, which a busy machine reaches later.
+        """
+        seconds = round(time.monotonic() - self.began)
+        limit = f" of {self.limit:.3g}" if 0 < self.limit and seconds <= self.limit else ""
         detail = f", {self.detail}" if self.detail else ""
-        return f"{self.stage}, {seconds}{limit}{detail}"
+        return f"{self.stage}, {seconds}{limit} s{detail}"
 
 
 def progress_words(known: Mapping[str, float]) -> str:
@@ -74,12 +78,22 @@ def progress_words(known: Mapping[str, float]) -> str:
     parts = [f"{name} {told[name]:.8g}" for name in VALUES if name in told]
     if "incumbent" in told and "bound" in told:
         parts.append(f"gap {gap_percentage(told['incumbent'], told['bound']):.3g} %")
+    counts = [f"{told[name]:.0f} {name}" for name in COUNTS if name in told]
+    return ", ".join([*parts, *_outlook(told), *counts])
+
+
+def _outlook(told: Mapping[str, float]) -> List[str]:
+    """How much of a tree is closed, and how long the rest takes, in words; only what is known.
+
+    Args:
+        told: By the names that `progress_words` knows, all finite.
+    """
+    parts = []
     if told.get("closed"):
         parts.append(f"{100 * told['closed']:.3g} % closed")
     if told.get("left", math.inf) <= LONGEST_FORECAST:
         parts.append(f"{duration_words(told['left'])} left")
-    parts += [f"{told[name]:.0f} {name}" for name in COUNTS if name in told]
-    return ", ".join(parts)
+    return parts
 
 
 def duration_words(left: float) -> str:

@@ -89,3 +89,19 @@ def test_names_make_no_verdict(workspace: Workspace, names: str, words: str) -> 
         assert PROVED.findall(ended.out) == ["optimal 17"]
         assert not any(line.startswith("not proved") for line in ended.out.splitlines())
     assert not set("\x1b\u202e\u2066\ufffe") & set(ended.out)
+
+
+@pytest.mark.needs("program")
+@pytest.mark.parametrize(
+    "text",
+    ["", "certificate 1\n", "certificate 1\noptimal 0.5 1\n", "certificate 1\noptimal 0\npoint x\n"],
+)
+def test_what_is_no_certificate_is_not_explained(workspace: Workspace, text: str) -> None:
+    workspace.copy_files(EXAMPLES)
+    workspace.write("m.certificate", text)
+    environment = {"BRIDGE": lying(workspace, "echo optimal 99; exit 0")}
+    ended = workspace.run(
+        "nl-bridge", "explain", "knap.nl", "m.certificate", environment=environment
+    )
+    assert "is not the proved one" in ended.text
+    assert "fault of the driver" not in ended.text

@@ -3,9 +3,11 @@
 from __future__ import annotations
 
 from pathlib import Path
+from typing import Sequence
 
 import pytest
 
+from bridge_drivers.formats import names
 from bridge_drivers.formats.names import NameLists, comment_of, numbered_name
 from timing import assert_linear
 
@@ -81,3 +83,21 @@ def test_lists_take_linear_time(piece: bytes, tmp_path: Path) -> None:
         return NameLists(str(tmp_path / "m")).column(0)
 
     assert_linear(lambda n: piece * n, read, 50_000)
+
+
+@pytest.mark.parametrize("endings", [(".row",), (".col",), (".row", ".col")])
+def test_lists_that_are_too_long_are_told(endings: Sequence[str], tmp_path: Path) -> None:
+    stub = str(tmp_path / "m")
+    for ending in endings:
+        with open(stub + ending, "wb") as file:
+            file.truncate(names.MOST_BYTES + 1)  # of which nothing stands on the disk
+    told = NameLists(stub).note()
+    assert told.startswith(" and ".join("m" + ending for ending in endings) + ": longer than ")
+    assert NameLists(stub).row(0) == NameLists(stub).column(0) == ""
+
+
+def test_lists_that_are_read_are_not_told(tmp_path: Path) -> None:
+    stub = str(tmp_path / "m")
+    with open(stub + ".col", "wb") as file:
+        file.truncate(names.MOST_BYTES)
+    assert (NameLists(stub).note(), NameLists("").note()) == ("", "")

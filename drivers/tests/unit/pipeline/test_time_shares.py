@@ -4,12 +4,13 @@ from __future__ import annotations
 
 import math
 import time
-from typing import Iterator
+from typing import Iterator, Sequence
 
 import pytest
 from hypothesis import given
 from hypothesis import strategies
 
+from bridge_drivers.commands.options import CERTIFY_OPTIONS, COMMON_OPTIONS, Option
 from bridge_drivers.exact.search_deadline import KEPT_SECONDS
 from bridge_drivers.pipeline.time_shares import (
     CERTIFICATE_SECONDS,
@@ -148,3 +149,13 @@ def test_all_shares_are_within_the_limit(
         assert search.left_of_all() >= search.seconds + KEPT_SECONDS
         latest = limit + LEAST_SEARCH_SECONDS + GRACE_SECONDS
         assert clock.now + search.left_of_all() <= BEGAN + latest + 1e-6
+
+
+@pytest.mark.parametrize("options", [COMMON_OPTIONS, CERTIFY_OPTIONS], ids=["drivers", "certify"])
+def test_help_says_what_no_limit_is(options: Sequence[Option]) -> None:
+    """timelim=0: the run has no limit, and the certificate CERTIFICATE_SECONDS of the processor."""
+    (described,) = [option for option in options if option.name == "timelim"]
+    search = TimeShares.of_limit(0.0, 0.0, proves=True).for_search()
+    assert search.of_processor
+    told = f"0: no limit, but the certificate has {search.seconds:.0f} seconds of the processor"
+    assert told in described.text

@@ -54,3 +54,16 @@ def test_a_stage() -> None:
         assert progress.words() == "certificate, 0 s, bound 3, exact duals"
         progress.tell("exact duals")
         assert progress.words() == "certificate, 0 s, exact duals"
+
+
+@pytest.mark.parametrize("seconds", [0.0, 0.4, 0.9, 1.6, 2.0, 3.4, 59.4, 60.2, 60.9, 61.0, 4e3])
+@pytest.mark.parametrize("limit", [0.0, 0.45, 1.0, 2.0, 60.0])
+def test_no_more_seconds_are_told_than_the_limit_has(limit: float, seconds: float) -> None:
+    with mock.patch.object(time, "monotonic", return_value=100.0) as clock:
+        progress = Progress()
+        progress.begin("certificate", limit)
+        clock.return_value += seconds
+        _, _, told = progress.words().partition(", ")
+    spent, *of_limit = told.removesuffix(" s").split(" of ")
+    assert abs(float(spent) - seconds) <= 0.5
+    assert of_limit == ([f"{limit:.3g}"] if limit and float(spent) <= limit else [])
