@@ -55,6 +55,12 @@ OF_EXCEPTIONS = ("system.errors",)
 OF_PRINTING = ("commands.console", "solvers.highs_script")  # the second is a program of its own
 OF_WRITING = ("system.files", "formats.source")
 OF_PROCESSES = ("system.processes",)
+# What is loaded when it is first used (system.late), each with its reason.
+LATE = {
+    "numpy": "one half of a start; small programs without a certificate are added up in lists",
+    ".certificate_search": "the search for certificates, with CLP's library and NumPy",
+    "..exact.search_deadline": "the clock of a search, which limits CLP's solves, too",
+}
 NAMES_OF_SECONDS = {"timeout", "seconds", "time_limit"}  # of parameters
 
 Function = Union[ast.FunctionDef, ast.AsyncFunctionDef]
@@ -368,6 +374,54 @@ def hidden_import(module: Module) -> Found:
             yield node, f"imports {node.module or '.'} in a function"
 
 
+def late_import(module: Module) -> Found:
+    """Only the modules of LATE are loaded when first used, below an import for types of the same."""
+    if not module.is_bound(("system.late",)):
+        return
+    paired = {id(call) for node in ast.walk(module.tree) for call in paired_late_calls(node)}
+    for node in ast.walk(module.tree):
+        if isinstance(node, ast.Call) and last_name(node) == "late_module":
+            if id(node) not in paired:
+                yield node, f"no import for types stands above {ast.unparse(node)}"
+            elif str(first_constant(node)) not in LATE:
+                yield node, f"may not be loaded late: {ast.unparse(node)}"
+
+
+def paired_late_calls(node: ast.AST) -> Iterator[ast.Call]:
+    """The call of `late_module` in `if TYPE_CHECKING: import .. else: NAME = late_module(..)`.
+
+    Nothing where both do not bind the same name to the same module.
+    """
+    if not isinstance(node, ast.If) or ast.unparse(node.test) != "TYPE_CHECKING":
+        return
+    if len(node.body) != 1 or len(node.orelse) != 1:
+        return
+    typed, late = node.body[0], node.orelse[0]
+    if not isinstance(late, ast.Assign) or not isinstance(late.value, ast.Call):
+        return
+    name = ast.unparse(late.targets[0])
+    if (first_constant(late.value), name) == module_and_name(typed):
+        yield late.value
+
+
+def first_constant(call: ast.Call) -> object:
+    """The first argument of a call, where it is written out; else None."""
+    first = call.args[0] if call.args else None
+    return first.value if isinstance(first, ast.Constant) else None
+
+
+def module_and_name(node: ast.AST) -> Optional[tuple[str, str]]:
+    """The module that an import of one module names, dots in front, and the name that it binds."""
+    if not isinstance(node, (ast.Import, ast.ImportFrom)) or len(node.names) != 1:
+        return None
+    alias = node.names[0]
+    bound = alias.asname or alias.name
+    if isinstance(node, ast.Import):
+        return alias.name, bound
+    inner = f"{node.module}." if node.module else ""
+    return "." * node.level + inner + alias.name, bound
+
+
 # ---- texts that others wrote
 
 
@@ -431,6 +485,7 @@ RULES: dict[str, Rule] = {
     "starting": starting,
     "counted-time": counted_time,
     "hidden-import": hidden_import,
+    "late-import": late_import,
     "regular-expression": regular_expression,
 }
 

@@ -13,7 +13,6 @@ import traceback
 from dataclasses import replace
 from typing import List, Optional, Sequence
 
-from .. import api
 from ..formats.sol import failure_sol, short_table, value_lines
 from ..formats.source import Source, Workspace, missing_source, read_model, read_source
 from ..pipeline.monitor import Monitor
@@ -28,6 +27,7 @@ from ..pipeline.outputs import (
     write_sol,
 )
 from ..pipeline.report import Report, ReportedCall
+from ..pipeline.run_report import report_of_error, report_of_outcome
 from ..pipeline.answered_run import Outcome
 from ..pipeline.solve import SolveRun
 from ..program.verdict import INDENTATION
@@ -445,11 +445,11 @@ class DriverCommand:
         reported.read_model(self.source)
         reported.model = self.source.name or None
         if self.error is not None:
-            told: Report = api.report_of_error(reported, self.error, self.name).report
+            told: Report = report_of_error(reported, self.error, self.name).report
             return replace(told, status=status)
         assert self.outcome is not None
         wanted = self.options.number("wantsol")
-        return api.report_of_outcome(
+        return report_of_outcome(
             reported,
             self.outcome,
             status,

@@ -12,7 +12,7 @@ import signal
 import sys
 from typing import Callable, List, Mapping, Sequence
 
-from .. import api
+from .. import model_calls
 from ..formats.file_kinds import is_mps_file, is_packed_file, start_of_file
 from ..formats.numbers import read_whole
 from ..formats.source import Workspace, is_stream, name_of_model, read_source
@@ -250,12 +250,12 @@ def _explained(call: FrontCall) -> Report:
     if len(rest) > 1 and rest[0] in forms.PROVED_WORDS:
         with Workspace() as workspace:
             files = _plain_files(workspace, rest, copies=True)
-            return api.refusal_report([rest[0], *files], rest)
+            return model_calls.refusal_report([rest[0], *files], rest)
     if len(rest) == 1:
-        return api.explain(rest[0])
+        return model_calls.explain(rest[0])
     if is_number(rest[1]):
-        return api.explain(rest[0], objective=read_whole(rest[1]))
-    return api.explanation_report(
+        return model_calls.explain(rest[0], objective=read_whole(rest[1]))
+    return model_calls.explanation_report(
         rest[0],
         rest[1],
         html=call.pages.get("html", ""),
@@ -315,7 +315,7 @@ def _imported(call: FrontCall) -> Report:
     """
     reported = ReportedCall(NAME)
     reported.model = call.rest[0]
-    with api.opened_bridge(reported) as (bridge, workspace):
+    with model_calls.opened_bridge(reported) as (bridge, workspace):
         path = _plain_file(workspace, "MPS", call.rest[0], copies=True)
         bridge.file_names[path] = call.rest[0]
         text = import_mps(bridge, path, call.rest[1], overwrite=call.overwrites)
@@ -324,13 +324,13 @@ def _imported(call: FrontCall) -> Report:
 
 def _verified(call: FrontCall) -> Report:
     """The report of `verify` on a model of any kind."""
-    return api.verify(call.rest[0], call.rest[1])
+    return model_calls.verify(call.rest[0], call.rest[1])
 
 
 def _statistics(call: FrontCall) -> Report:
     """The report of `stats`, of the first objective where no number (from 0) is said."""
     objective = read_whole(call.rest[1]) if len(call.rest) > 1 else 0
-    return api.figures(call.rest[0], objective=objective)
+    return model_calls.figures(call.rest[0], objective=objective)
 
 
 REPORTS: Mapping[str, Callable[[FrontCall], Report]] = {

@@ -17,15 +17,8 @@ from ..system.deadline import Deadline
 from ..system.errors import DeadlineExceeded, SearchEnded, TimeOver
 from .clp import Clp, ClpNotInstalled
 from .dual_bound import DOUBLES_NOTE, is_optimal_in_doubles
-from .evidence import (
-    AnswerByPlace,
-    AnswerClaim,
-    Evidence,
-    EvidenceStore,
-    Judge,
-    first_proved,
-    not_proved,
-)
+from .evidence import AnswerByPlace, AnswerClaim, Evidence, Judge, not_proved
+from .evidence_store import EvidenceStore, first_proved
 from .integer_certifier import IntegerCertifier
 from .linear_certifier import LinearCertifier
 from .refutations import Refuter

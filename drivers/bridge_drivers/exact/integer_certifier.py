@@ -17,7 +17,8 @@ from ..system.errors import SearchEnded
 from . import points
 from .clp import ClpNotInstalled, LpStatus
 from .dual_bound import MultiplierKind
-from .evidence import BoundEvidence, Evidence, Number, first_proved, not_proved
+from .evidence import Evidence, Number, not_proved
+from .evidence_store import BoundEvidence, first_proved
 from .leaf_proofs import LeafProver, basis_duals
 from .linear_certifier import LinearCertifier
 from .portfolio import Portfolio

@@ -22,7 +22,8 @@ from . import points
 from .basis import IterativeRefinement, NearBasis, Optimum, can_lift, exact_optimum
 from .clp import Clp, LpStatus
 from .dual_bound import MultiplierKind, dual_bound, fits_certificate
-from .evidence import NO_POINT, AnswerByPlace, Evidence, Number, too_wide_note
+from .evidence import NO_POINT, AnswerByPlace, Evidence, Number
+from .evidence_store import too_wide_note
 from .leaf_proofs import LeafProof, LeafProver, basis_duals, from_fractions
 from .rational_simplex import is_small
 from .refutations import Refuter

@@ -16,7 +16,8 @@ from ..model.integer_form import IntegerProgram, Point
 from ..system.deadline import Deadline
 from . import points
 from .clp import Clp, LpStatus, library
-from .evidence import AnswerByPlace, EvidenceStore, Number
+from .evidence import AnswerByPlace, Number
+from .evidence_store import EvidenceStore
 from .lattice_search import LatticeOptimum, lattice_optimum
 from .parallel import ParallelSearch
 from .portfolio import Portfolio

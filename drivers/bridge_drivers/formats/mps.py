@@ -19,10 +19,17 @@ from array import array
 from collections import Counter, defaultdict
 from dataclasses import dataclass
 from functools import cached_property
-from typing import Dict, Iterator, List, Mapping, NamedTuple, Optional, Sequence, Tuple
-
-import numpy as np
-from numpy.typing import NDArray
+from typing import (
+    TYPE_CHECKING,
+    Dict,
+    Iterator,
+    List,
+    Mapping,
+    NamedTuple,
+    Optional,
+    Sequence,
+    Tuple,
+)
 
 from .numbers import decimals_over_common_denominator, read_fraction
 
@@ -38,8 +45,8 @@ UPPER_BOUNDS = {b"UP": None, b"UI": None, b"FX": None, b"BV": b"1", b"PL": b"", 
 INTEGERS_BEGIN, INTEGERS_END = b"'INTORG'", b"'INTEND'"
 
 WrittenBound = Optional[bytes]  # empty where it is infinite, None where it is not set
-Places = NDArray[np.int32]
-Texts = NDArray[np.object_]
+if TYPE_CHECKING:
+    Places = array[int]  # by entry, of C's int
 
 
 class RowBounds(NamedTuple):
@@ -213,8 +220,9 @@ class _MpsReader:
         self._read_bounds(bounds)
 
     def columns_read(self) -> MpsColumns:
-        """What was read, its entries in arrays of NumPy."""
-        counts = np.array(self.entry_counts, dtype=np.int64)
+        """What was read, with the column of each entry."""
+        counts = enumerate(self.entry_counts)
+        columns = (itertools.repeat(column, count) for column, count in counts)
         return MpsColumns(
             maximise=self.maximise,
             objective=self.objective,
@@ -223,9 +231,9 @@ class _MpsReader:
             columns=self.columns,
             is_integer=self.is_integer,
             numbers=list(self.place_of_number),
-            entry_rows=np.frombuffer(self.entry_rows, np.int32),
-            entry_columns=np.repeat(np.arange(len(counts), dtype=np.int32), counts),
-            entry_numbers=np.frombuffer(self.entry_numbers, np.int32),
+            entry_rows=self.entry_rows,
+            entry_columns=array("i", itertools.chain.from_iterable(columns)),
+            entry_numbers=self.entry_numbers,
             rhs=self._by_row(self.rhs),
             ranges=self._by_row(self.ranges),
             lower=self.lower,
@@ -311,20 +319,16 @@ class _MpsReader:
         Raises:
             KeyError: No column has a name that stands there.
         """
-        lower = np.array(self.lower, object)
-        upper = np.array(self.upper, object)
         for block in section.blocks():
             words = _words_of_bounds(block)
-            kinds = np.array(words[1::4], "S2")
+            kinds = words[1::4]
             names = [third if set_name else last for set_name, third, last in _triples(words)]
-            found = map(self._place_of_column.__getitem__, names)
-            places = np.fromiter(found, np.int64, len(names))
-            values = np.array(words[4::4], object)
-            _set_bounds(lower, LOWER_BOUNDS, kinds, places, values)
-            _set_bounds(upper, UPPER_BOUNDS, kinds, places, values)
-            for place in places[np.isin(kinds, INTEGER_BOUNDS)].tolist():
-                self.is_integer[place] = True
-        self.lower, self.upper = lower.tolist(), upper.tolist()
+            places = list(map(self._place_of_column.__getitem__, names))
+            _set_bounds(self.lower, LOWER_BOUNDS, kinds, places, words[4::4])
+            _set_bounds(self.upper, UPPER_BOUNDS, kinds, places, words[4::4])
+            for kind, place in zip(kinds, places):
+                if kind in INTEGER_BOUNDS:
+                    self.is_integer[place] = True
 
     @cached_property
     def _place_of_column(self) -> Dict[bytes, int]:
@@ -338,13 +342,13 @@ def _triples(words: Sequence[bytes]) -> Iterator[Tuple[bytes, bytes, bytes]]:
 
 
 def _set_bounds(
-    bounds: Texts,
+    bounds: List[WrittenBound],
     values_of_kinds: Mapping[bytes, WrittenBound],
-    kinds: NDArray[np.bytes_],
-    places: NDArray[np.int64],
-    values: Texts,
+    kinds: Sequence[bytes],
+    places: Sequence[int],
+    values: Sequence[bytes],
 ) -> None:
-    """Sets bounds by column, as lines of BOUNDS say, in their order.
+    """Sets bounds by column, as lines of BOUNDS say, in their order: of several the last one counts.
 
     Args:
         bounds: The lower or the upper ones, which are changed.
@@ -353,14 +357,10 @@ def _set_bounds(
         places: By line its column.
         values: By line, as it is written; not looked at for a kind without one.
     """
-    own = values.copy()
-    is_set = np.zeros(len(kinds), dtype=bool)
-    for kind, value in values_of_kinds.items():
-        is_kind = kinds == kind
-        is_set |= is_kind
-        if value is not None:
-            own[is_kind] = value
-    bounds[places[is_set]] = own[is_set]  # of equal places the last one counts
+    for kind, place, value in zip(kinds, places, values):
+        if kind in values_of_kinds:
+            known = values_of_kinds[kind]
+            bounds[place] = value if known is None else known
 
 
 def _words_of_bounds(block: bytes) -> List[bytes]:
@@ -406,10 +406,10 @@ def canonical(read: MpsColumns) -> MpsColumns:
         if row >= 0 or (row == OBJECTIVE and read_fraction(text))
     }
     own.kinds, own.ranges = _canonical_ranges(read)
-    kept = read.entry_rows != EXTRA_OBJECTIVE
-    own.entry_rows = read.entry_rows[kept]
-    own.entry_columns = read.entry_columns[kept]
-    own.entry_numbers = read.entry_numbers[kept]
+    kept = [row != EXTRA_OBJECTIVE for row in read.entry_rows]
+    own.entry_rows = array("i", itertools.compress(read.entry_rows, kept))
+    own.entry_columns = array("i", itertools.compress(read.entry_columns, kept))
+    own.entry_numbers = array("i", itertools.compress(read.entry_numbers, kept))
     return own
 
 
@@ -465,7 +465,7 @@ def _column_lines(own: MpsColumns, rows: List[bytes]) -> Iterator[bytes]:
     """
     entries: List[List[bytes]] = [[] for _ in own.columns]
     places = (own.entry_rows, own.entry_columns, own.entry_numbers)
-    for row, column, number in zip(*(part.tolist() for part in places)):
+    for row, column, number in zip(*places):
         line = b" %s %s %s" % (own.columns[column], rows[row], own.numbers[number])
         entries[column].append(line)
     markers = itertools.count()

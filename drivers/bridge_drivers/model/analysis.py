@@ -9,9 +9,9 @@ from collections import Counter
 from dataclasses import dataclass, field
 from fractions import Fraction
 from functools import cached_property, lru_cache
+from itertools import compress
+from operator import not_
 from typing import Collection, Dict, Iterator, List, NamedTuple, Optional, Sequence, Tuple, Union
-
-import numpy as np
 
 from ..formats.mps import OBJECTIVE
 from ..formats.numbers import nearest_double, read_fraction
@@ -110,10 +110,11 @@ def residuals(
 
 def _beyond(values: Sequence[float], lower: Doubles, upper: Doubles) -> List[MissedBound]:
     """The places at which a value is not between both bounds."""
-    at = np.array(values, dtype=np.float64)
-    places = np.flatnonzero(~((lower <= at) & (at <= upper)))
-    found = (places, at[places], lower[places], upper[places])
-    return list(zip(*(part.tolist() for part in found)))
+    return [
+        (place, value, low, high)
+        for place, (value, low, high) in enumerate(zip(values, lower, upper))
+        if not low <= value <= high
+    ]
 
 
 def _row_residuals(
@@ -132,8 +133,8 @@ def _row_residuals(
         return
     sizes = program.matrix.largest_terms([max(1.0, abs(value)) for value in x])
     written = program.written
-    is_fractional = ~np.array(is_whole, dtype=bool)
-    mixed = set(np.unique(written.entry_rows[is_fractional[written.entry_columns]]).tolist())
+    places = zip(written.entry_rows, written.entry_columns)
+    mixed = {row for row, column in places if not is_whole[column]}
     for row, activity, lower, upper in missed:
         yield _residual(
             program.names.rows[row],
@@ -242,16 +243,17 @@ class Statistics:
         """
         written, names = self.program.written, self.program.names
         numbers = [parsed(text) for text in written.numbers]
-        is_cost = written.entry_rows == OBJECTIVE
+        cost_rows = {OBJECTIVE}
         if EPIGRAPH_ROW in names.rows:
-            is_cost = is_cost | (written.entry_rows == names.rows.index(EPIGRAPH_ROW))
-        columns = written.entry_columns[is_cost].tolist()
-        sizes = [_size(numbers[k].value) for k in written.entry_numbers[is_cost].tolist()]
+            cost_rows.add(names.rows.index(EPIGRAPH_ROW))
+        is_cost = [row in cost_rows for row in written.entry_rows]
+        columns = list(compress(written.entry_columns, is_cost))
+        sizes = [_size(numbers[k].value) for k in compress(written.entry_numbers, is_cost)]
         self._count_costs(columns, sizes)
-        counts = np.bincount(written.entry_numbers[~is_cost], minlength=len(numbers)).tolist()
-        for number, count in zip(numbers, counts):
-            if count and number.value:
-                self.entries += count
+        counts = Counter(compress(written.entry_numbers, map(not_, is_cost)))
+        for place, number in enumerate(numbers):
+            if counts[place] and number.value:
+                self.entries += counts[place]
                 self.sizes.append(_size(number.value))
         self._find_lost([number.is_held for number in numbers])
 
@@ -278,12 +280,11 @@ class Statistics:
         """
         written, names = self.program.written, self.program.names
         rows = [*names.rows, "", written.objective.decode()]  # N rows stand last
-        entries = np.flatnonzero(~np.array(is_held, dtype=bool)[written.entry_numbers])
-        for k in entries.tolist():
-            row = rows[written.entry_rows[k]]
-            column = names.columns[written.entry_columns[k]]
-            text = written.numbers[written.entry_numbers[k]].decode()
-            self.lost.append(LostNumber(f"{row} {column}", text))
+        places = zip(written.entry_rows, written.entry_columns, written.entry_numbers)
+        for row, column, number in places:
+            if not is_held[number]:
+                place = f"{rows[row]} {names.columns[column]}"
+                self.lost.append(LostNumber(place, written.numbers[number].decode()))
 
     def _count_sides(self) -> None:
         """Counts right-hand sides and ranges in `sides` and `infinite`, and adds to `lost`.

@@ -4,11 +4,15 @@ from __future__ import annotations
 
 import math
 from fractions import Fraction
-from typing import Any, Iterator, List, NamedTuple, Sequence
-
-import numpy
+from typing import TYPE_CHECKING, Any, Iterator, List, NamedTuple, Sequence
 
 from ..formats.numbers import exact_decimal
+from ..system.late import late_module
+
+if TYPE_CHECKING:
+    import numpy
+else:
+    numpy = late_module("numpy")
 
 
 class _Sides(NamedTuple):

@@ -452,10 +452,11 @@ class _WholeNumbers:
         which all is divided.
         """
         written = self.written
+        entries = Entries.of(written)
         is_tied = self.given.names.has_epigraph_column
         row = self.places.index(-1) if is_tied else OBJECTIVE
-        chosen = np.flatnonzero(written.entry_rows == row)
-        numbers = written.entry_numbers[chosen].tolist()
+        chosen = np.flatnonzero(entries.rows == row)
+        numbers = entries.numbers[chosen].tolist()
         used = sorted(set(numbers))
         texts = [written.rhs.get(row, b"0"), *(written.numbers[k] for k in used)]
         (side, *known), factor = decimals_over_common_denominator(texts)
@@ -466,7 +467,7 @@ class _WholeNumbers:
         sign = -1 if self.given.maximise != (factor < 0) else 1
         (side, *values), scale = lowest_terms([sign * v for v in (side, *values)], abs(factor))
         costs = [0] * self.n
-        for column, value in zip(written.entry_columns[chosen].tolist(), values):
+        for column, value in zip(entries.columns[chosen].tolist(), values):
             costs[column] = value
         return _Costs(costs, -side, scale)
 
@@ -477,10 +478,11 @@ class _WholeNumbers:
         Each number that differs is turned once, and once more for each factor of its rows.
         """
         written = self.written
+        given = Entries.of(written)
         row_of = np.array([*self.places, -1, -1], np.int32)  # N rows stand last
-        rows = row_of[written.entry_rows]
+        rows = row_of[given.rows]
         kept = np.flatnonzero(rows >= 0)
-        numbers = written.entry_numbers[kept]
+        numbers = given.numbers[kept]
         used = np.unique(numbers).tolist()
         known, scale = decimals_over_common_denominator([written.numbers[k] for k in used])
         table = [0] * len(written.numbers)
@@ -499,7 +501,7 @@ class _WholeNumbers:
             table = [table[k] * (least // factors[f]) for k, f in split]
             scale *= least
         table, scale = lowest_terms(table, scale)
-        entries = Entries(rows[kept], written.entry_columns[kept], numbers)
+        entries = Entries(rows[kept], given.columns[kept], numbers)
         matrix = sparse_rows_of(self.m, self.n, entries, table, range(self.m))
         return _RowsOfFile(matrix, scale)
 

@@ -17,15 +17,12 @@ import copy
 import math
 from dataclasses import dataclass
 from functools import cached_property
+from itertools import compress
 from typing import Dict, List, NamedTuple, Optional, Sequence, Tuple
-
-import numpy as np
-from numpy.typing import NDArray
 
 from ..formats.mps import (
     OBJECTIVE,
     MpsColumns,
-    Places,
     RowBounds,
     canonical,
     read_mps,
@@ -34,13 +31,13 @@ from ..formats.mps import (
 from ..formats.names import NameLists
 from ..formats.numbers import read_fraction
 from ..system.text import first_of, one_line
-from .sparse_rows import Entries, SparseRows, sparse_rows_of
+from .sparse_rows import LARGE, Entries, SparseRows, sparse_rows_in_lists, sparse_rows_of
 
 EPIGRAPH_COLUMN, EPIGRAPH_ROW = "z", "zdef"
 MOST_NAMED = 3  # columns that a note names
 BOUNDS_HEADING = b"\nBOUNDS\n"
 
-Doubles = NDArray[np.float64]
+Doubles = List[float]
 
 
 class ObjectiveTerms:
@@ -82,7 +79,7 @@ class DoubleCosts(NamedTuple):
     0.
     """
 
-    columns: Places
+    columns: List[int]
     values: Doubles
 
 
@@ -194,9 +191,7 @@ class LinearProgram:
     def cost_texts(self) -> Dict[int, bytes]:
         """By column its coefficient in the objective, as it is written, without the `0`s."""
         numbers = self.written.numbers
-        entries = self._objective
-        pairs = zip(entries.columns.tolist(), entries.numbers.tolist())
-        return {column: numbers[k] for column, k in pairs if numbers[k] != b"0"}
+        return {column: numbers[k] for column, k in self._objective if numbers[k] != b"0"}
 
     def has_objective(self) -> bool:
         """Whether the objective is anything but the constant 0.
@@ -260,18 +255,18 @@ class LinearProgram:
     @cached_property
     def matrix(self) -> SparseRows:
         """The coefficients of rows in doubles, those that are not 0."""
-        written = self.written
-        entries = Entries(written.entry_rows, written.entry_columns, written.entry_numbers)
+        written, doubles = self.written, self._doubles
+        if len(written.entry_rows) <= LARGE:
+            return sparse_rows_in_lists(self.m, self.n, written, doubles)
         no_objectives = [*range(self.m), -1, -1]
-        return sparse_rows_of(self.m, self.n, entries, self._doubles, no_objectives)
+        return sparse_rows_of(self.m, self.n, Entries.of(written), doubles, no_objectives)
 
     @cached_property
     def costs(self) -> DoubleCosts:
         """The objective in doubles, in the file's own sense, without its constant."""
-        entries = self._objective
-        values = np.array(self._doubles, dtype=np.float64)[entries.numbers]
-        used = values != 0
-        return DoubleCosts(entries.columns[used], values[used])
+        doubles = self._doubles
+        used = [(column, doubles[k]) for column, k in self._objective if doubles[k]]
+        return DoubleCosts([column for column, _ in used], [value for _, value in used])
 
     @cached_property
     def lower(self) -> Doubles:
@@ -287,13 +282,13 @@ class LinearProgram:
     def row_lower(self) -> Doubles:
         """Lower bounds of rows in doubles, minus infinity where there is none."""
         lower, _, denominator = self._row_bounds
-        return np.array([-math.inf if v is None else v / denominator for v in lower], np.float64)
+        return [-math.inf if v is None else v / denominator for v in lower]
 
     @cached_property
     def row_upper(self) -> Doubles:
         """Upper bounds of rows in doubles, infinity where there is none."""
         _, upper, denominator = self._row_bounds
-        return np.array([math.inf if v is None else v / denominator for v in upper], np.float64)
+        return [math.inf if v is None else v / denominator for v in upper]
 
     def objective_terms(self, x: Sequence[float]) -> ObjectiveTerms:
         """The objective at a point, in the file's own sense.
@@ -301,20 +296,17 @@ class LinearProgram:
         Args:
             x: The values of all columns.
         """
-        columns, values = self.costs
-        terms = values * np.array(x, dtype=np.float64)[columns]
-        return ObjectiveTerms(-float(self.objective_rhs), terms.tolist())
+        terms = [cost * x[column] for column, cost in zip(*self.costs)]
+        return ObjectiveTerms(-float(self.objective_rhs), terms)
 
     @cached_property
-    def _objective(self) -> Entries:
-        """The entries of the objective's row, those of 0 too; their `rows` are all OBJECTIVE."""
-        chosen = np.flatnonzero(self.written.entry_rows == OBJECTIVE)
+    def _objective(self) -> List[Tuple[int, int]]:
+        """The entries of the objective's row, those of 0 too: the column, and the place of the
+        coefficient in `written.numbers`.
+        """
         written = self.written
-        return Entries(
-            written.entry_rows[chosen],
-            written.entry_columns[chosen],
-            written.entry_numbers[chosen],
-        )
+        is_cost = [row == OBJECTIVE for row in written.entry_rows]
+        return list(compress(zip(written.entry_columns, written.entry_numbers), is_cost))
 
     @cached_property
     def _bounds(self) -> Tuple[List[bytes], List[bytes]]:
@@ -345,7 +337,7 @@ def _in_doubles(texts: List[bytes], infinity: float) -> Doubles:
         infinity: What stands for none, with its sign.
     """
     known = {text: float(text) for text in set(texts) if text}
-    return np.array([known.get(text, infinity) for text in texts], np.float64)
+    return [known.get(text, infinity) for text in texts]
 
 
 def _rounded_bound(line: bytes, integers: set[bytes]) -> bytes:

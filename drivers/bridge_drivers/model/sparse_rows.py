@@ -12,16 +12,34 @@ from __future__ import annotations
 
 from functools import cached_property
 from itertools import accumulate
-from typing import Any, Iterator, List, Mapping, NamedTuple, Optional, Sequence, Tuple
+from typing import (
+    TYPE_CHECKING,
+    Any,
+    Iterator,
+    List,
+    Mapping,
+    NamedTuple,
+    Optional,
+    Sequence,
+    Tuple,
+)
 
-import numpy as np
-from numpy.typing import NDArray
+from ..formats.mps import MpsColumns
+from ..system.late import late_module
+
+if TYPE_CHECKING:
+    import numpy as np
+else:
+    np = late_module("numpy")
+if TYPE_CHECKING:
+    from numpy.typing import NDArray
+
+    Places = NDArray[np.int32]
 
 LARGE = 20_000  # entries from which on arrays are quicker than lists
 DOUBLE_BITS = 53  # bits of whole numbers that doubles hold
 DIGIT_BITS = 26  # bits of a digit of a wide coefficient
 
-Places = NDArray[np.int32]
 Pairs = List[List[Tuple[int, int]]]  # by row its columns and coefficients, or by column its rows
 
 
@@ -38,6 +56,13 @@ class Entries(NamedTuple):
     columns: Places
     numbers: Places  # places in a table of coefficients
 
+    @staticmethod
+    def of(written: MpsColumns) -> Entries:
+        """Those of a text, N rows too; the coefficients are in its `numbers`. Nothing is copied."""
+        places = (written.entry_rows, written.entry_columns, written.entry_numbers)
+        rows, columns, numbers = (np.frombuffer(part, np.int32) for part in places)
+        return Entries(rows, columns, numbers)
+
 
 class SparseRows:
     """Coefficients of `m` rows in `n` columns, none of them 0.
@@ -50,26 +75,25 @@ class SparseRows:
         n: The count of columns.
     """
 
-    def __init__(self, m: int, n: int, entries: Entries, table: Sequence[Any]) -> None:
-        """Of entries.
+    def __init__(self, m: int, n: int, entries: Optional[Entries], table: Sequence[Any]) -> None:
+        """Of entries; `of_lists` makes one of lists.
 
         Args:
             m: The count of rows.
             n: The count of columns.
             entries: Their places. Where there are few, a list of a row has its columns in this
-                order.
+                order. None: whoever calls sets `rows`.
             table: The coefficients that `entries.numbers` names, whole numbers or doubles.
         """
         self.m = m
         self.n = n
-        self._entries: Optional[Entries] = entries
+        self._entries = entries
         self._table = table
 
     @staticmethod
     def of_lists(n: int, rows: Pairs) -> SparseRows:
         """Of lists: by row its pairs of column and coefficient. They are kept, not copied."""
-        made = SparseRows(len(rows), n, Entries(*[np.zeros(0, np.int32)] * 3), [])
-        made._entries = None
+        made = SparseRows(len(rows), n, None, [])
         vars(made)["rows"] = rows
         return made
 
@@ -327,6 +351,24 @@ def split_digits(x: Sequence[int], bits: int) -> Iterator[Tuple[int, List[int]]]
         rest = [v >> bits for v in rest]
         shift += bits
     yield shift, rest
+
+
+def sparse_rows_in_lists(m: int, n: int, written: MpsColumns, table: Sequence[float]) -> SparseRows:
+    """The coefficients of a text's rows that are not 0, in lists, which need no NumPy.
+
+    Args:
+        m: The count of rows; N rows are left out.
+        n: The count of columns.
+        written: The text's entries, in whose order a row has its columns.
+        table: The coefficients that they name by number.
+    """
+    rows: List[List[Tuple[int, Any]]] = [[] for _ in range(m)]
+    for row, column, number in zip(
+        written.entry_rows, written.entry_columns, written.entry_numbers
+    ):
+        if row >= 0 and table[number]:
+            rows[row].append((column, table[number]))
+    return SparseRows.of_lists(n, rows)
 
 
 def sparse_rows_of(

@@ -13,8 +13,6 @@ from functools import cached_property
 from itertools import islice
 from typing import Iterable, Iterator, Mapping, Sequence
 
-import numpy as np
-
 from ..system.codes import Code
 from ..model.analysis import NO_RESIDUAL, Residual, residual_of, worst_residual
 from ..model.linear_program import LinearProgram, ObjectiveTerms
@@ -352,10 +350,21 @@ def exact_reduced_costs(program: LinearProgram, duals: Sequence[Fraction]) -> li
         costs[column] = read_fraction(text)
     written = program.written
     places = (written.entry_rows, written.entry_columns, written.entry_numbers)
-    for row, column, number in zip(*(part.tolist() for part in places)):
+    for row, column, number in zip(*places):
         if row >= 0 and duals[row]:
             costs[column] -= duals[row] * numbers[number]
     return costs
+
+
+def is_point(values: Sequence[str], point: Sequence[Fraction] | None) -> bool:
+    """Whether decimals, one for each variable of the file, are this point exactly.
+
+    False without a point.
+    """
+    if point is None or len(point) != len(values):
+        return False
+    known = {text: Fraction(text) for text in set(values)}
+    return all(known[text] == value for text, value in zip(values, point))
 
 
 def _are_near(duals: Mapping[int, Fraction], own: Sequence[Number]) -> bool:
@@ -367,10 +376,8 @@ def _are_near(duals: Mapping[int, Fraction], own: Sequence[Number]) -> bool:
         duals: The proved ones, by row; not each row need have one.
         own: The solver's, one for each row.
     """
-    proved = np.fromiter(map(float, duals.values()), np.float64, len(duals))
-    told = np.fromiter((float(own[row]) for row in duals), np.float64, len(duals))
-    tolerances = NEAR_DUAL * np.maximum(1.0, np.abs(proved))
-    return bool(np.all(np.abs(proved - told) <= tolerances))
+    pairs = ((float(dual), float(own[row])) for row, dual in duals.items())
+    return all(abs(proved - told) <= NEAR_DUAL * max(1.0, abs(proved)) for proved, told in pairs)
 
 
 def _lines(head: str, pairs: Iterable[tuple[str, object]]) -> Iterator[bytes]:

@@ -7,7 +7,7 @@ one column and one row more than the file, and may lack rows of it.
 from __future__ import annotations
 
 from fractions import Fraction
-from typing import Dict, List, Mapping, Sequence, Union
+from typing import Dict, List, Mapping, Union
 
 from ..exact import clp
 from ..exact.evidence import AnswerByPlace
@@ -72,14 +72,3 @@ def _basis(found: SolverAnswer, columns: int, numbers: Mapping[int, int]) -> clp
         [column for column, status in statuses if status == BasisStatus.BASIC],
         [n for row, n in numbers.items() if found.row_basis[row] != BasisStatus.BASIC],
     )
-
-
-def is_point(values: Sequence[str], point: Sequence[Fraction] | None) -> bool:
-    """Whether decimals, one for each variable of the file, are this point exactly.
-
-    False without a point.
-    """
-    if point is None or len(point) != len(values):
-        return False
-    known = {text: Fraction(text) for text in set(values)}
-    return all(known[text] == value for text, value in zip(values, point))

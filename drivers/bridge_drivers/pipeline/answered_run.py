@@ -28,9 +28,8 @@ from ..system.errors import (
 )
 from ..system.errors import Interrupted
 from ..system.text import one_line, shortened
-from .answer import Answer
+from .answer import Answer, is_point
 from ..formats.sol import read_sol
-from .answer_places import is_point
 from .certification import AnswerCertifier, Returned
 from .certified_answer import certified_answer
 from .monitor import LOGGER
@@ -331,12 +330,13 @@ class AnsweredRun:
         makes a proved point optimal.
         """
         lines = []
-        if self.judge.start_note:
-            lines.append(self.judge.start_note)
+        facts = self.judge.facts
+        if facts.start_note:
+            lines.append(facts.start_note)
         shares = self.judge.shares.words()
-        if shares and (self.judge.is_out_of_time or TIME_LIMIT in answer.found.text):
+        if shares and (facts.is_out_of_time or TIME_LIMIT in answer.found.text):
             lines.append(shares)
-        if self.judge.is_interrupted:
+        if facts.is_interrupted:
             lines.append("interrupted: the search for a certificate was ended")
         if resolution.kind:
             objective = resolution.answer.objective_text()

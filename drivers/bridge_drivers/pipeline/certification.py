@@ -8,58 +8,38 @@ Nothing in it rests on this package: the certificate is a text about the model's
 from __future__ import annotations
 
 from fractions import Fraction
-from typing import Mapping, NamedTuple, Optional, Sequence
+from typing import TYPE_CHECKING, NamedTuple, Optional, Sequence
 
-from ..exact import clp
-from ..exact.worker_pools import WorkerPool, open_pool
-from ..exact.certificate import lines_of_answer
-from ..exact.certifier import certify
-from ..exact.evidence import NOT_PROVED, AnswerByPlace, AnswerClaim, Evidence, not_proved
-from ..exact.search_deadline import SearchDeadline
-from ..exact.task import SearchOptions
+from ..exact.evidence import NOT_PROVED, Evidence
+from ..formats.numbers import decimal_or_fraction
+from ..formats.sol import read_sol
 from ..model.analysis import TOLERANCE_OF_INTEGERS, worst_residual
-from ..model.integer_form import IntegerProgram
 from ..model.linear_program import EPIGRAPH_COLUMN, EPIGRAPH_ROW
-from ..system.deadline import Deadline
-from ..system.errors import DeadlineExceeded, ProgramFailed, UnsupportedModel
-from ..system.signals import interrupts_to
 from ..program.bridge import Bridge
 from ..program.refusal import Refusal
 from ..program.verdict import Claim, Statement, objective_lattice, sentence, statement_of
-from ..formats.sol import read_sol
-from ..solvers.base import SolverStatus
 from ..solvers.run import SolverRun
-from ..formats.numbers import decimal, decimal_or_fraction
-from .answer import Answer
-from .answer_places import answer_by_place, is_point
-from .contradiction import contradiction_words
-from .exact_optimum import ExactOptimum
-from .judge import CertificateJudge
-from .judged_start import judged_start
+from ..system.deadline import Deadline
+from ..system.errors import DeadlineExceeded
+from ..system.late import late_module
+from .answer import Answer, is_point
 from .monitor import Monitor
-from .row_factors import whole_form
+from .search_facts import SearchFacts, WrittenNumbers
 from .settings import Settings
-from .stored_certificate import CertificateStore, StoredCertificate
 from .start_point import StartPoint
+from .stored_certificate import CertificateStore, StoredCertificate
 from .time_shares import TimeShares
 
-ONE_LEAF_SECONDS = 1.0  # of a search without prove=1
-LARGE_PROGRAM = 400_000  # bytes of an exported program that have a second each
+if TYPE_CHECKING:
+    from . import certificate_search
+else:
+    certificate_search = late_module(".certificate_search", __package__)
+
 LEAST_SHARE = 1e-15  # of the largest term: less is not told by doubles
 OUT_OF_TIME = "no verdict, since the time was over"
-PLACES = 9  # decimals that doubles are rounded to, where they do not pass as they are
 NO_SEARCH = (
     "prove=1 needs the library of CLP, which is not there (Debian: apt install coinor-libclp1)"
 )
-CLAIM_OF_STATUS: Mapping[SolverStatus, AnswerClaim] = {
-    SolverStatus.OPTIMAL: AnswerClaim.POINT,
-    SolverStatus.FEASIBLE: AnswerClaim.POINT,
-    SolverStatus.LIMIT_WITH_POINT: AnswerClaim.POINT,
-    SolverStatus.INFEASIBLE: AnswerClaim.INFEASIBLE,
-    SolverStatus.UNBOUNDED: AnswerClaim.UNBOUNDED,
-    SolverStatus.INFEASIBLE_OR_UNBOUNDED: AnswerClaim.INFEASIBLE_OR_UNBOUNDED,
-    SolverStatus.LIMIT: AnswerClaim.UNKNOWN,
-}  # what is tried first
 
 
 class Returned(NamedTuple):
@@ -70,16 +50,6 @@ class Returned(NamedTuple):
 
     answer: Answer
     sol: bytes
-
-
-class WrittenNumbers(NamedTuple):
-    """Values and duals as decimals, in the order of the file's variables and constraints.
-
-    The duals are empty unless the program is continuous.
-    """
-
-    values: list[str]
-    duals: list[str]
 
 
 class AnswerCertifier:
@@ -96,14 +66,9 @@ class AnswerCertifier:
         is_mps: The model is an MPS file, of which no .sol is made: values are judged by a
             certificate.
         is_relaxed: The program has integer variables, and they are relaxed.
-        is_interrupted: The last search for a certificate was ended by the user.
-        is_out_of_time: The last long search had all its time.
-        pool_note: A line for the message on the processes that searched; "" where there is nothing
-            to say.
+        facts: What is told of the last search for a certificate.
         store: Keeps the certificate that is accepted.
         start: Values that the search may begin with; None where there are none.
-        whole_program: What was searched, in whole numbers; None before a search.
-        start_note: A line for the message where it did; "" where it did not.
     """
 
     def __init__(
@@ -134,12 +99,8 @@ class AnswerCertifier:
         self.program = run.program
         self.is_mps = not run.program.is_exported
         self.is_relaxed = bool(run.program.integer_count) and run.settings.relax
-        self.is_interrupted = False
-        self.is_out_of_time = False
-        self.pool_note = ""
+        self.facts = SearchFacts()
         self.start: Optional[StartPoint] = None
-        self.whole_program: Optional[IntegerProgram] = None
-        self.start_note = ""
         self.store = CertificateStore(
             bridge,
             model,
@@ -237,8 +198,8 @@ class AnswerCertifier:
             DeadlineExceeded: The verdict takes too long.
         """
         objective = 0 if self.is_mps else self.settings.objective
-        text = "\n".join(lines_of_answer(values, [], objective)) + "\n"
-        path = self.run.write("values.certificate", text.encode())
+        text = certificate_search.certificate_of_values(values, objective)
+        path = self.run.write("values.certificate", text)
         try:
             with self.monitor.timing("check"):
                 judged = self.bridge.verify(self.model, path, self.shares.for_verdict())
@@ -252,190 +213,23 @@ class AnswerCertifier:
         return self.check_words(judged.line)
 
     def certify(self, answer: Answer) -> Evidence:
-        """What is proved of an answer by a search, at its end.
+        """What is proved of an answer by a search (`CertificateSearch`), at its end; sets `facts`.
 
-        A long search, with other processes, is made with prove=1. Where a large program has no
-        certificate when the time of a search is over, the answer is tried as it stands. Sets
-        `is_interrupted` and `pool_note`.
+        The search is loaded when this is first called.
         """
-        settings = self.settings.certificate
-        proves = settings.prove and not self.run.is_interrupted
-        deadline = self._deadline(is_search=proves)
-        judge = CertificateJudge(self.bridge, self.model, self.run.path("certificate"), deadline)
-        pool = open_pool(settings.processes, settings.cluster, deadline) if proves else None
-        self.monitor.stage_begins("certificate", deadline.seconds)
-        try:
-            with self.monitor.timing("certify"):
-                start = self.certified_start(answer, judge)
-                evidence = self.searched(answer, judge, pool, start, proves=proves)
-                if start is not None and not evidence.is_proved:
-                    evidence = start
-        finally:
-            self.monitor.stage_begins("", 0.0)
-            if pool is not None:
-                pool.close()
-                self.pool_note = pool.note
-                if pool.fault:
-                    self.pool_note = "the search went on in one process: " + pool.fault
-        self.is_interrupted = deadline.is_interrupted
-        self.is_out_of_time = proves and deadline.is_over()
-        is_point = CLAIM_OF_STATUS[answer.found.status] is AnswerClaim.POINT
-        is_open = is_point and not self.is_relaxed and not evidence.is_proved
-        if is_open and len(self.program.text) > LARGE_PROGRAM:
-            return self._by_answer_itself(judge, answer, evidence)
-        return evidence
-
-    def _deadline(self, *, is_search: bool) -> SearchDeadline:
-        """The time of a search.
-
-        Args:
-            is_search: A long one: it has all of its share, in seconds of the wall. Else it has a
-                second of the processor, or one for each LARGE_PROGRAM bytes of the program where
-                that is more, and at most its share.
-        """
-        if is_search:
-            return self.shares.for_search()
-        by_size = len(self.program.text) / LARGE_PROGRAM
-        return self.shares.for_search(max(by_size, ONE_LEAF_SECONDS))
-
-    def _by_answer_itself(
-        self, judge: CertificateJudge, answer: Answer, evidence: Evidence
-    ) -> Evidence:
-        """The answer's own certificate where it is accepted, else the evidence of the search.
-
-        The note of the search, its bound in doubles and an open ray are kept with the former.
-        """
-        stands = self.from_answer_itself(judge, answer)
-        if not stands.is_proved:
-            return evidence
-        return stands._replace(
-            is_optimal_in_doubles=evidence.is_optimal_in_doubles,
-            note=evidence.note,
-            may_be_unbounded=evidence.may_be_unbounded,
+        self.facts = SearchFacts()
+        search = certificate_search.CertificateSearch(
+            bridge=self.bridge,
+            model=self.model,
+            run=self.run,
+            settings=self.settings,
+            monitor=self.monitor,
+            shares=self.shares,
+            start=self.start,
+            numbers=self.numbers,
+            facts=self.facts,
         )
-
-    def certified_start(self, answer: Answer, judge: CertificateJudge) -> Evidence | None:
-        """The start where it is a feasible point and better than the answer; sets `start_note`."""
-        self.start_note = ""
-        if self.start is None or self.is_relaxed:
-            return None
-        found = judged_start(self.start, answer, lambda values: self.judged(judge, values, []))
-        self.start_note = found.note
-        return found.evidence
-
-    def searched(
-        self,
-        answer: Answer,
-        judge: CertificateJudge,
-        pool: WorkerPool | None,
-        start: Evidence | None = None,
-        *,
-        proves: bool,
-    ) -> Evidence:
-        """What the search proves of an answer, or why it proves nothing.
-
-        Duals are scaled both ways by the factors that `bridge export` multiplied rows by: the
-        search has the file's rows in whole numbers, the answer and the evidence here have the
-        exported ones. An interrupt in the search ends it alone.
-
-        Args:
-            answer: Whose status and numbers the search begins with.
-            judge: Of the certificates; its deadline is that of the search, and starts anew where
-                nothing is proved by a long one.
-            pool: Other processes that search; None for none.
-            start: A certified point that is better than the answer, and takes its place; None for
-                none.
-            proves: Whether long searches are wanted.
-
-        Returns:
-            Its duals are by the file's constraint.
-        """
-        try:
-            program, factors = whole_form(
-                self.bridge, self.model, self.program, self.settings.objective
-            )
-            self.whole_program = program
-        except (Refusal, ProgramFailed) as fault:
-            return not_proved(fault.text)
-        except UnsupportedModel as fault:
-            return not_proved(fault)
-        if not proves:
-            judge.deadline.restart()
-        given = answer_by_place(answer)
-        if given.duals is not None and factors:
-            duals = {row: factors.get(row, 1) * dual for row, dual in given.duals.items()}
-            given = given._replace(duals=duals)
-        claim = CLAIM_OF_STATUS[answer.found.status]
-        if start is not None:
-            claim, given = AnswerClaim.POINT, AnswerByPlace(start.point)
-        with interrupts_to(judge.deadline.interrupt):
-            evidence = certify(
-                program,
-                judge,
-                claim=claim,
-                answer=given,
-                deadline=judge.deadline,
-                on_progress=self.monitor.tell_search,
-                options=self._search_options(proves=proves),
-                pool=pool,
-                exact_solver=ExactOptimum.of(self.program, factors, judge.deadline),
-            )
-        if not factors:
-            return evidence
-        exported = {row: dual / factors.get(row, 1) for row, dual in evidence.duals.items()}
-        return evidence._replace(duals=exported)
-
-    def _search_options(self, *, proves: bool) -> SearchOptions:
-        """What is asked of a search.
-
-        Args:
-            proves: Whether long searches are wanted.
-        """
-        settings = self.settings.certificate
-        return SearchOptions(
-            objective=self.settings.objective,
-            proves=proves,
-            is_relaxation=self.is_relaxed,
-            wants_bound=settings.bound,
-            shortens=settings.shorten,
-        )
-
-    def from_answer_itself(self, judge: CertificateJudge, answer: Answer) -> Evidence:
-        """What an answer proves by itself: its values and duals are the certificate.
-
-        They are tried as they are written, then rounded to PLACES decimals.
-
-        Only the rounded one has its point in the evidence.
-        """
-        try:
-            numbers = self.numbers(answer)
-        except Refusal as fault:
-            return not_proved(fault.text)
-        evidence = self.judged(judge, *numbers)
-        if evidence.is_proved:
-            return evidence
-        values, duals = (
-            [decimal(round(float(text), PLACES))[0] for text in texts] for texts in numbers
-        )
-        second = self.judged(judge, values, duals)
-        if not second.is_proved:
-            return evidence
-        return second._replace(point=list(map(Fraction, values)))
-
-    def judged(self, judge: CertificateJudge, values: list[str], duals: list[str]) -> Evidence:
-        """What the certificate proves whose point and one leaf are these values and duals.
-
-        Args:
-            judge: Is asked of it.
-            values: A decimal for each of the file's variables.
-            duals: One for each of its constraints; without duals the claim is that the values are
-                feasible.
-        """
-        lines = list(lines_of_answer(values, duals, self.settings.objective))
-        judgement = judge(lines)
-        if not judgement.is_proved:
-            return not_proved(judgement.line)
-        return Evidence(judgement.line, certificate=("\n".join(lines) + "\n").encode("ascii"))
+        return search.evidence(answer)
 
     def numbers(self, answer: Answer) -> WrittenNumbers:
         """The values and duals of an answer as they are written, in its .sol where one is made.
@@ -466,28 +260,20 @@ class AnswerCertifier:
             said: The same as a claim with its numbers; None where nothing is proved.
             stored: What was done with the certificate; None where none is wanted.
         """
-        settings = self.settings.certificate
         lines = [
             *self.claim_words(said, verdict.note),
-            self.why_infeasible(verdict),
-            self.pool_note,
+            self.facts.contradiction,
+            self.facts.pool_note,
         ]
         last = verdict.line
         is_settled = said is not None and said.claim.is_final
-        if settings.prove and settings.check and clp.library() is None and not is_settled:
+        if self.facts.lacks_library and not is_settled:
             lines.append(NO_SEARCH)
             if said is not None:
                 last = f"{NOT_PROVED}there was no search; without it: {last}"
         if stored is not None:
             lines.append(stored.line)
         return [line for line in (*lines, verdict.note, last) if line]
-
-    def why_infeasible(self, verdict: Evidence) -> str:
-        """A line with the rows and bounds of a contradiction; "" where none is proved."""
-        whole, accepted = self.whole_program, verdict.certificate
-        if whole is None or accepted is None or verdict.claim != Claim.INFEASIBLE.value:
-            return ""
-        return contradiction_words(accepted, whole, self.program.own_names)
 
     def stored(self, verdict: Evidence) -> StoredCertificate | None:
         """Keeps the accepted certificate, and says what was done; None where none is wanted."""

@@ -13,9 +13,8 @@ from ..formats.source import Source, Workspace, read_model
 from ..model.linear_program import LinearProgram
 from ..system.files import write_new
 
-GivenModel = Union[
-    str, "os.PathLike[str]", bytes, LinearProgram
-]  # a path, the bytes of a file, a program
+Path = Union[str, "os.PathLike[str]"]
+GivenModel = Union[Path, bytes, LinearProgram]  # a path, the bytes of a file, a program
 NAME_IN_MEMORY = "the given model"
 
 

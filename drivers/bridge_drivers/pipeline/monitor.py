@@ -12,11 +12,13 @@ import contextlib
 import logging
 import shlex
 import time
-from typing import Callable, Iterator, Mapping, NamedTuple, Sequence
+from typing import TYPE_CHECKING, Callable, Iterator, Mapping, NamedTuple, Sequence
 
-from ..exact.search_deadline import SearchProgress
 from ..solvers.run import RunObserver
 from ..system.progress import Progress
+
+if TYPE_CHECKING:
+    from ..exact.search_deadline import SearchProgress
 
 LOGGER = logging.getLogger("bridge_drivers")
 SOLVER_LOGGER = LOGGER.getChild("solver")  # the lines of a solver's log, with their ends

@@ -8,11 +8,16 @@ from __future__ import annotations
 
 import math
 from dataclasses import dataclass, field
-from typing import Dict, Optional
+from typing import TYPE_CHECKING, Dict, Optional
 
-from ..exact.search_deadline import SearchDeadline
 from ..solvers.run import SolverTime
 from ..system.deadline import Deadline
+from ..system.late import late_module
+
+if TYPE_CHECKING:
+    from ..exact import search_deadline
+else:
+    search_deadline = late_module("..exact.search_deadline", __package__)
 
 VERDICT_SHARE = 0.1  # of what is left when a stage begins: it is kept for verdicts
 SEARCH_SHARE = 0.5  # of the rest, for a certificate that is to be searched for after the solver
@@ -82,7 +87,9 @@ class TimeShares:
         latest = share * (1 + VERDICT_SHARE) + GRACE_SECONDS
         return SolverTime(share, Deadline(min(latest, max(left, share + GRACE_SECONDS))))
 
-    def for_search(self, most_of_processor: Optional[float] = None) -> SearchDeadline:
+    def for_search(
+        self, most_of_processor: Optional[float] = None
+    ) -> search_deadline.SearchDeadline:
         """The share of the search for a certificate that begins now.
 
         It is what is left, less VERDICT_SHARE, and LEAST_SEARCH_SECONDS at least. Its verdicts have
@@ -96,15 +103,15 @@ class TimeShares:
         """
         if not self.has_limit():
             most = CERTIFICATE_SECONDS if most_of_processor is None else most_of_processor
-            return SearchDeadline(min(most, CERTIFICATE_SECONDS), of_processor=True)
+            return search_deadline.SearchDeadline(min(most, CERTIFICATE_SECONDS), of_processor=True)
         left = self.deadline.left()
         share = max(left * (1 - VERDICT_SHARE), LEAST_SEARCH_SECONDS)
         all_within = max(left, share + GRACE_SECONDS)
         if most_of_processor is not None:
             seconds = min(most_of_processor, share)
-            return SearchDeadline(seconds, of_processor=True, all_within=all_within)
+            return search_deadline.SearchDeadline(seconds, of_processor=True, all_within=all_within)
         self.given["the certificate"] = share
-        return SearchDeadline(share, all_within=all_within)
+        return search_deadline.SearchDeadline(share, all_within=all_within)
 
     def for_verdict(self) -> Deadline:
         """The time of a verdict on what is passed on: what is left, GRACE_SECONDS at least."""

@@ -51,13 +51,13 @@ class DoubleArrays:
         """Of a program as solvers read it; costs are turned so that they are minimised."""
         rows = program.matrix
         self.sign = -1.0 if program.maximise else 1.0
-        self.row_lower = program.row_lower
-        self.row_upper = program.row_upper
-        self.lower = program.lower
-        self.upper = program.upper
+        self.row_lower = numpy.array(program.row_lower, dtype=float)
+        self.row_upper = numpy.array(program.row_upper, dtype=float)
+        self.lower = numpy.array(program.lower, dtype=float)
+        self.upper = numpy.array(program.upper, dtype=float)
         self.is_integer = numpy.array(program.is_integer, dtype=int)
         self.costs = numpy.zeros(rows.n)
-        self.costs[program.costs.columns] = self.sign * program.costs.values
+        self.costs[program.costs.columns] = self.sign * numpy.array(program.costs.values)
         order = numpy.argsort(rows.entries.rows, kind="stable")
         values = numpy.array(rows.table, dtype=float)[rows.entries.numbers[order]]
         starts = numpy.cumsum([0, *rows.lengths])

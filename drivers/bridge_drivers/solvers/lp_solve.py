@@ -244,10 +244,9 @@ def is_at_infinity(program: LinearProgram, values: Sequence[float]) -> bool:
     Args:
         values: By column.
     """
-    lower, upper = program.lower.tolist(), program.upper.tolist()
     return any(
         abs(value) >= INFINITE and value not in (low, high)
-        for value, low, high in zip(values, lower, upper)
+        for value, low, high in zip(values, program.lower, program.upper)
     )
 
 

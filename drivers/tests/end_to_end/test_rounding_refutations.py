@@ -8,7 +8,8 @@ from typing import List
 
 import pytest
 
-from bridge_drivers.exact.evidence import AnswerByPlace, AnswerClaim, first_proved
+from bridge_drivers.exact.evidence import AnswerByPlace, AnswerClaim
+from bridge_drivers.exact.evidence_store import first_proved
 from builders.misleading_kinds import models
 from builders.nl_text import most, nl_text, row, whole
 from running.certifying import CertifiedModel

@@ -12,13 +12,11 @@ COMMANDS = sorted((Path(__file__).parents[2] / "bin").iterdir())
 
 
 @pytest.mark.parametrize("command", COMMANDS, ids=[path.name for path in COMMANDS])
-def test_a_python_without_numpy(command: Path, tmp_path: Path) -> None:
-    (tmp_path / "numpy.py").write_text("raise ModuleNotFoundError(name='numpy')\n")
+def test_a_python_without_numpy(command: Path) -> None:
+    """It is told as the command starts, though NumPy is loaded later: -S leaves out what is
+    installed beside Python's own modules."""
     ended = subprocess.run(
-        [sys.executable, command, "-v"],
-        env={"PYTHONPATH": str(tmp_path)},
-        capture_output=True,
-        text=True,
+        [sys.executable, "-S", command, "-v"], env={}, capture_output=True, text=True
     )
     assert ended.returncode == 127
     assert ended.stderr == (

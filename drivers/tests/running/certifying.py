@@ -5,7 +5,8 @@ from __future__ import annotations
 from pathlib import Path
 
 from bridge_drivers.exact.certifier import Certifier
-from bridge_drivers.exact.evidence import AnswerByPlace, AnswerClaim, Evidence, EvidenceStore
+from bridge_drivers.exact.evidence import AnswerByPlace, AnswerClaim, Evidence
+from bridge_drivers.exact.evidence_store import EvidenceStore
 from bridge_drivers.exact.search_deadline import SearchDeadline
 from bridge_drivers.exact.task import CertificationTask, SearchOptions
 from bridge_drivers.model.linear_program import LinearProgram

@@ -45,6 +45,11 @@ def names_of_rules(path: str, text: str) -> set[str]:
     return {finding.rule for finding in style.findings(style.module_of_text(path, text))}
 
 
+def late(typed: str, loaded: str) -> str:
+    """A module that is imported for types, and loaded when it is first used."""
+    return f"if TYPE_CHECKING:\n    {typed}\nelse:\n    {loaded}\n"
+
+
 BREAKS = [
     ("packed", "a, b, c = 1, 2, 3\n"),
     ("multiplied", "def f(is_last):\n    return [1] * is_last\n"),
@@ -65,6 +70,10 @@ BREAKS = [
     ("starting", "from subprocess import run\n"),
     ("counted-time", "def f(timeout):\n    pass\n"),
     ("hidden-import", "def f():\n    from ..system import files\n"),
+    ("late-import", "np = late_module('numpy')\n"),
+    ("late-import", late("import numpy as np", "other = late_module('numpy')")),
+    ("late-import", late("import numpy as np", "np = late_module('scipy')")),
+    ("late-import", late("import json", "json = late_module('json')")),
     ("regular-expression", "import re\n\nre.compile('a.b', re.DOTALL)\n"),
     ("regular-expression", "import re\n\nre.match('(a+)+', word)\n"),
 ]
@@ -96,6 +105,7 @@ KEEPS = [
     ("counted-time", OF_DRIVERS, "def f(deadline):\n    pass\n"),
     ("hidden-import", OF_DRIVERS, "from ..system import files\n"),
     ("hidden-import", OF_DRIVERS, "def f():\n    import scipy\n"),
+    ("late-import", OF_DRIVERS, late("import numpy as np", "np = late_module('numpy')")),
     ("regular-expression", OF_DRIVERS, "import re\n\nre.match('a+b+', word)\n"),
 ]
 

@@ -14,7 +14,8 @@ from hypothesis import given, settings
 
 from bridge_drivers.exact.certifier import certify
 from bridge_drivers.exact.clp import library
-from bridge_drivers.exact.evidence import AnswerByPlace, AnswerClaim, EvidenceStore, first_proved
+from bridge_drivers.exact.evidence import AnswerByPlace, AnswerClaim
+from bridge_drivers.exact.evidence_store import EvidenceStore, first_proved
 from bridge_drivers.exact.evidence import not_proved
 from bridge_drivers.exact.rational_simplex import SimplexResult
 from bridge_drivers.exact.refutations import Refuter

@@ -30,7 +30,7 @@ def entries_of(read: MpsColumns) -> Dict[Tuple[str, str], Fraction]:
     """By the names of row and column, without those of other N rows."""
     rows = {place: name.decode() for place, name in enumerate(read.rows)}
     rows[OBJECTIVE] = read.objective.decode()
-    places = zip(read.entry_rows.tolist(), read.entry_columns.tolist(), read.entry_numbers.tolist())
+    places = zip(read.entry_rows, read.entry_columns, read.entry_numbers)
     return {
         (rows[row], read.columns[column].decode()): Fraction(read.numbers[number].decode())
         for row, column, number in places

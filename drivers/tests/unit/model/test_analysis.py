@@ -186,7 +186,7 @@ def slow_residuals(program: LinearProgram, x: List[float]) -> Dict[str, float]:
     """By name of what is missed, as a share of its largest term."""
     found = {}
     coefficients = dict(zip(program.names.rows, program.matrix.rows))
-    sides = zip(program.names.rows, program.row_lower.tolist(), program.row_upper.tolist())
+    sides = zip(program.names.rows, program.row_lower, program.row_upper)
     for name, lower, upper in sides:
         row = coefficients[name]
         activity = 0.0
@@ -197,7 +197,7 @@ def slow_residuals(program: LinearProgram, x: List[float]) -> Dict[str, float]:
             missed = lower if activity < lower else upper
             sizes = [abs(a) * max(1.0, abs(x[j])) for j, a in row]
             found[name] = by / max([0.0, *sizes, abs(missed)])
-    bounds = zip(program.names.columns, x, program.lower.tolist(), program.upper.tolist())
+    bounds = zip(program.names.columns, x, program.lower, program.upper)
     for name, v, lower, upper in bounds:
         by = max(lower - v, v - upper)
         if by > 0:

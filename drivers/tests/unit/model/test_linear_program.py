@@ -60,10 +60,10 @@ def test_doubles_are_the_nearest(seed: int) -> None:
         return [none if end is None else float(end) for end in ends]
 
     bounds, sides = list(plain.bounds().values()), list(plain.sides().values())
-    assert p.lower.tolist() == doubles(bounds, 0)
-    assert p.upper.tolist() == doubles(bounds, 1)
-    assert p.row_lower.tolist() == doubles(sides, 0)
-    assert p.row_upper.tolist() == doubles(sides, 1)
+    assert p.lower == doubles(bounds, 0)
+    assert p.upper == doubles(bounds, 1)
+    assert p.row_lower == doubles(sides, 0)
+    assert p.row_upper == doubles(sides, 1)
     names = list(plain.ends)
     rows = [[(names[j], a) for j, a in row] for row in p.matrix.rows]
     assert rows == [
@@ -75,7 +75,7 @@ def test_doubles_are_the_nearest(seed: int) -> None:
         for row in plain.constraints()
     ]
     columns, values = p.costs
-    assert {names[j]: v for j, v in zip(columns.tolist(), values.tolist())} == {
+    assert {names[j]: v for j, v in zip(columns, values)} == {
         x: float(a) for (i, x), a in plain.entries.items() if i == plain.objective() and a
     }
 

@@ -10,7 +10,7 @@ import pytest
 
 from bridge_drivers.model.linear_program import LinearProgram
 from bridge_drivers.pipeline.answered_run import proved_gap_words, shows_its_claim
-from bridge_drivers.pipeline.answer_places import is_point
+from bridge_drivers.pipeline.answer import is_point
 from bridge_drivers.pipeline.certification import AnswerCertifier, feasible_words
 from bridge_drivers.pipeline.monitor import Monitor
 from bridge_drivers.pipeline.settings import CertificateSettings, Settings
