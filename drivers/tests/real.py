@@ -185,7 +185,8 @@ def line_of_model(path: Path, bin_folder: str, seconds: float, optimum: Optional
     except ValueError:
         told = {"lines": [f"no end: {ended.text[:60]!r}"]}
     value, bound = exact(told.get("value")), exact(told.get("bound"))
-    size = max(1.0, abs(float(optimum))) if optimum is not None else 1.0
+    near = next((v for v in (optimum, value, bound) if v is not None), Fraction(0))
+    size = max(1.0, abs(float(near)))
     cells = dict.fromkeys(HEADINGS, "")
     lines: List[str] = told["lines"]
     note = next((line for line in lines[:-1] if "the exact optimum" in line), "")

@@ -32,7 +32,7 @@ from .task import CertificationTask, ExactAnswer
 
 LARGE_ENTRIES = 3000  # from which on bases come first, where SciPy is there
 MOST_REFINED_ENTRIES = 200_000  # of a program whose bases are refined
-SHORT_SECONDS = 4.0  # of the processor, for a short point, and again for short duals
+SHORT_SECONDS = 6.0  # of the processor, for a short point, and again for short duals
 SHORT_ENTRIES_PER_SECOND = 50_000  # coefficients of a large program that have a second each
 LARGE_SHORT_ENTRIES = 200_000  # from which on duals are rounded as they are, too
 SHORT_ROUNDS = 2  # of refinement, where no exact basis is looked for: some 1e-27

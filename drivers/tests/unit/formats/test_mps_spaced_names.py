@@ -44,7 +44,10 @@ def test_blanks_within_names(names: List[str], numbers: List[str]) -> None:
     wanted = text_of(as_words(rows), as_words(columns), numbers).replace(b"RHS 1", b"RHS_1")
     assert got == wanted
     count = sum(" " in name for name in {*rows, *columns, "RHS 1"})
-    assert notes[0] == f"{count} names with blanks in fixed columns have `_` in the place of each blank"
+    assert (
+        notes[0]
+        == f"{count} names with blanks in fixed columns have `_` in the place of each blank"
+    )
     assert repair_mps(got).notes == []
 
 
