@@ -108,13 +108,23 @@ class LinearCertifier:
         if relaxed.status is LpStatus.UNBOUNDED:
             yield self.refuter.certify_ray()
         if clp is not None:
-            yield from self.by_bases(self.bases(clp))
-            if is_large and self.optimum is None and not self.store.note:
-                yield from self._by_points(answer, clp)
-            yield from self._by_exact_solver()
-            self.add_short_numbers(clp)
+            yield from self._by_relaxation(answer, clp, is_large=is_large)
         yield from self._by_rational_simplex(answer, clp)
         yield from self._by_what_is_known()
+
+    def _by_relaxation(
+        self, answer: AnswerByPlace, clp: Clp, *, is_large: bool
+    ) -> Iterator[Evidence]:
+        """`optimal` by bases from CLP's optimum on, else by another exact solver.
+
+        Short numbers near that optimum go to the store; of a large program they are looked for
+        before the exact solver is asked, where no basis was exactly optimal and none was too wide.
+        """
+        yield from self.by_bases(self.bases(clp))
+        if is_large and self.optimum is None and not self.store.note:
+            yield from self._by_points(answer, clp)
+        yield from self._by_exact_solver()
+        self.add_short_numbers(clp)
 
     def by_bases(self, bases: Iterable[NearBasis]) -> Iterator[Evidence]:
         """`optimal` by the first basis that is exactly optimal, where a certificate can hold it.

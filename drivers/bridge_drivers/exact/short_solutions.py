@@ -185,10 +185,16 @@ class ShortSolutions(Generic[Short]):
             found = self._tried(rounder, Rounding(places[middle], step, *way))
             is_enough = found.is_wide if isinstance(found, Trial) else found.gap <= goal
             low, high = (low, middle) if is_enough else (middle + 1, high)
-            if isinstance(found, Judged) and (self.best is None or found.gap <= self.best.gap):
-                self.best = found
-            is_near = is_near or isinstance(found, Judged) and found.gap <= GOAL
+            is_near = self._keep(found) or is_near
         return is_near
+
+    def _keep(self, found: Judged[Short] | Trial) -> bool:
+        """Keeps what is no farther than the best so far; whether it is as near as GOAL."""
+        if not isinstance(found, Judged):
+            return False
+        if self.best is None or found.gap <= self.best.gap:
+            self.best = found
+        return found.gap <= GOAL
 
     def _tried(self, rounder: Rounder, rounding: Rounding) -> Judged[Short] | Trial:
         """One rounding, judged."""

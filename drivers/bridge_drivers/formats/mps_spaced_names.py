@@ -44,15 +44,30 @@ def spaced_names_repair(text: bytes) -> Optional[Repair]:
         fields = _fields(start, line)
         if fields is None:
             return None
-        for field, raw in fields:
-            written = field.name.replace(b" ", FILLER)
-            if known.setdefault(written, raw) != raw:
-                return None
-            if written != field.name:
-                edits.append(Edit(field.start, field.start + len(written), written))
+        of_line = _edits(fields, known)
+        if of_line is None:
+            return None
+        edits += of_line
     count = sum(b" " in raw.strip() for raw in known.values())
     note = f"{count} names with blanks in fixed columns have `_` in the place of each blank"
     return Repair(edits, note) if edits else None
+
+
+def _edits(fields: List[Tuple[_Field, bytes]], known: Dict[bytes, bytes]) -> Optional[List[Edit]]:
+    """The edits of a line; None where a name becomes the same as another one.
+
+    Args:
+        fields: The names of the line, each with its field as it stands.
+        known: Fields as they stand, by what is written for them; those of the line are added.
+    """
+    edits: List[Edit] = []
+    for field, raw in fields:
+        written = field.name.replace(b" ", FILLER)
+        if known.setdefault(written, raw) != raw:
+            return None
+        if written != field.name:
+            edits.append(Edit(field.start, field.start + len(written), written))
+    return edits
 
 
 def _data_lines(text: bytes) -> Iterator[Tuple[int, bytes]]:

@@ -94,7 +94,12 @@ def test_names_make_no_verdict(workspace: Workspace, names: str, words: str) -> 
 @pytest.mark.needs("program")
 @pytest.mark.parametrize(
     "text",
-    ["", "certificate 1\n", "certificate 1\noptimal 0.5 1\n", "certificate 1\noptimal 0\npoint x\n"],
+    [
+        "",
+        "certificate 1\n",
+        "certificate 1\noptimal 0.5 1\n",
+        "certificate 1\noptimal 0\npoint x\n",
+    ],
 )
 def test_what_is_no_certificate_is_not_explained(workspace: Workspace, text: str) -> None:
     workspace.copy_files(EXAMPLES)

@@ -144,7 +144,7 @@ def test_a_column_that_is_fixed_is_not_branched_on(
     """5 x + y is at most 9 or at least 10, and more than 9 by little: CLP has a column that is fixed
     at 0 at 1e-15, which times M is as much."""
     large, side = 10**power, f"9.{1:0{digits}d}"
-    columns = [Column(0, 41, False, 5), Column(0, 42, False, 5), Column(0, 1, True, 5)]
+    columns = [Column(0, 41, cost=5), Column(0, 42, cost=5), Column(0, 1, is_integer=True, cost=5)]
     either = {0: 5, 1: 1, 2: -large}
     rows = [
         Row(None, 9, either),
