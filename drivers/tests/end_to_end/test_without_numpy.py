@@ -5,6 +5,7 @@ from __future__ import annotations
 import subprocess
 import sys
 from pathlib import Path
+from typing import Dict
 
 import pytest
 
@@ -15,8 +16,12 @@ COMMANDS = sorted((Path(__file__).parents[2] / "bin").iterdir())
 def test_a_python_without_numpy(command: Path) -> None:
     """It is told as the command starts, though NumPy is loaded later: -S leaves out what is
     installed beside Python's own modules."""
+    no_variables: Dict[str, str] = {}
     ended = subprocess.run(
-        [sys.executable, "-S", command, "-v"], env={}, capture_output=True, text=True
+        [sys.executable, "-S", str(command), "-v"],
+        env=no_variables,
+        capture_output=True,
+        text=True,
     )
     assert ended.returncode == 127
     assert ended.stderr == (

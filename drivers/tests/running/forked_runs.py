@@ -21,7 +21,7 @@ from running.workspace import SECONDS, Ended, Workspace
 sys.path.insert(0, str(DRIVERS))
 
 from bridge_drivers.commands import driver  # noqa: E402
-from bridge_drivers.pipeline import certification  # noqa: E402
+from bridge_drivers.pipeline import certificate_search  # noqa: E402
 
 UNHURRIED_SECONDS = 30.0  # of a certificate, as running/without.py has it for `hurry`
 FAULT = 70  # the status of a child whose command raised what no command raises
@@ -73,7 +73,7 @@ class ForkedWorkspace(Workspace):
                 os.dup2(target.fileno(), number)
             signal.signal(signal.SIGINT, signal.SIG_DFL)
             if is_unhurried:
-                certification.ONE_LEAF_SECONDS = UNHURRIED_SECONDS
+                certificate_search.ONE_LEAF_SECONDS = UNHURRIED_SECONDS
             sys.argv = [command, *words]
             driver.main(command.partition("-")[2])
         except SystemExit as ended:

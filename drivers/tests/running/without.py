@@ -24,7 +24,7 @@ PARTS = {
     "clp": ("bridge_drivers.exact.clp", "LOADED", [None]),
     "fractions": ("bridge_drivers.exact.rational_simplex", "MOST_ROWS", -1),
     "rays": ("bridge_drivers.exact.points", "find_ray", _out_of_time),
-    "hurry": ("bridge_drivers.pipeline.certification", "ONE_LEAF_SECONDS", 30.0),
+    "hurry": ("bridge_drivers.pipeline.certificate_search", "ONE_LEAF_SECONDS", 30.0),
 }
 
 

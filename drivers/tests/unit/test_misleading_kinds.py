@@ -12,11 +12,16 @@ from builders.misleading import Misleading
 from builders.misleading_kinds import models
 
 
+def name_of(model: Misleading) -> str:
+    """How a model is called in lists of tests."""
+    return model.name
+
+
 def models_of(kind: str) -> list[Misleading]:
     return [model for model in models() if model.name.rstrip("0123456789") == kind]
 
 
-@pytest.mark.parametrize("model", models_of("diophantine"), ids=lambda model: model.name)
+@pytest.mark.parametrize("model", models_of("diophantine"), ids=name_of)
 def test_the_least_of_an_equation(model: Misleading) -> None:
     """At it the other column is whole and not below 0, and so it is at no less value."""
     ((side, _, row),) = model.rows
@@ -30,7 +35,7 @@ def test_the_least_of_an_equation(model: Misleading) -> None:
     assert least < period or a * (least - period) < c
 
 
-@pytest.mark.parametrize("model", models_of("huge_equations"), ids=lambda model: model.name)
+@pytest.mark.parametrize("model", models_of("huge_equations"), ids=name_of)
 def test_points_of_huge_equations(model: Misleading) -> None:
     """Its best is that of all points of the box."""
     boxes = [range(int(high or 0) + 1) for _, _, high in model.columns]

@@ -131,7 +131,7 @@ def test_no_points_near_the_answer_of_a_large_program_that_is_too_wide(
     asked = []
 
     def fails(*_: object) -> None:
-        raise TooManyBits("more than 169 bits") if wide else NotSolved("it is not optimal")
+        raise TooManyBits(169) if wide else NotSolved("it is not optimal")
 
     def no_points(*_: object) -> Iterator[Evidence]:
         asked.append(True)
