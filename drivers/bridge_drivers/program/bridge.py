@@ -15,7 +15,7 @@ from ..system.codes import ExitStatus
 from ..system.deadline import Deadline
 from ..system.errors import DeadlineExceeded, NotFound, NotInstalled, NotStarted, ProgramFailed
 from ..system.processes import OutputLimits, run
-from .calls import Command, Reply, is_utf8
+from .calls import TEXT_SHAPES, Command, Reply, is_utf8
 from .certified import CertifiedSol, read_certified
 from .refusal import Refusal
 from .verdict import NoVerdict, Verdict, read_check
@@ -250,17 +250,22 @@ class Bridge:
         """What a command prints that writes a text.
 
         Args:
-            command: The command.
+            command: The command, of TEXT_SHAPES.
             files: Its words.
             deadline: As of `call`.
 
         Raises:
             Refusal: It ended with another status than 0.
             DeadlineExceeded: It was ended at the deadline.
+            ProgramFailed: It ended with 0, and wrote what the proved program does not.
         """
         reply = self.call(command.value, *files, deadline=deadline)
         if reply.status != ExitStatus.DONE:
             raise self.refusal((command.value, *files), reply)
+        shape = TEXT_SHAPES[command]
+        if not shape.is_of(reply.out):
+            wrong = f"`bridge {command.value}` wrote no {shape.name} text"
+            raise ProgramFailed(f"the program `bridge` is not the proved one: {wrong}")
         return reply.out
 
     def export(self, model: str, objective: int = 0) -> bytes:
@@ -322,7 +327,8 @@ class Bridge:
             NoVerdict: The certificate does not hold, or what is answered is no such text.
             DeadlineExceeded: It was ended at the deadline.
         """
-        return read_certified(self._judged(Command.CERTIFIED, model, certificate, deadline))
+        reply = self._judged(Command.CERTIFIED, model, certificate, deadline, limits=TEXT_LIMITS)
+        return read_certified(reply)
 
     def check(self, model: str, sol: str, deadline: Optional[Deadline] = None) -> str:
         """The line on the point and the duals of a .sol file over an .nl file.
@@ -340,10 +346,15 @@ class Bridge:
         return read_check(self._judged(Command.CHECK, model, sol, deadline))
 
     def _judged(
-        self, command: Command, model: str, other: str, deadline: Optional[Deadline]
+        self,
+        command: Command,
+        model: str,
+        other: str,
+        deadline: Optional[Deadline],
+        limits: OutputLimits = VERDICT_LIMITS,
     ) -> Reply:
         """A reply with one of the two statuses that go with a verdict."""
-        reply = self.call(command.value, model, other, deadline=deadline, limits=VERDICT_LIMITS)
+        reply = self.call(command.value, model, other, deadline=deadline, limits=limits)
         if reply.status not in (ExitStatus.DONE, ExitStatus.FAILED):
             raise self.refusal((command.value, model, other), reply)
         return reply

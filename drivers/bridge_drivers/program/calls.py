@@ -57,6 +57,38 @@ FIRST_LINES: Mapping[str, str] = {
 }  # what the second file of a command begins with
 
 
+class TextShape(NamedTuple):
+    """By what a text that a command writes is told from other output.
+
+    Attributes:
+        name: What kind of text it is.
+        start, end: What it begins and ends with.
+        within: What stands somewhere in it.
+    """
+
+    name: str
+    start: bytes
+    end: bytes
+    within: bytes = b""
+
+    def is_of(self, text: bytes) -> bool:
+        """Whether a text looks like one of the kind."""
+        is_whole = text.startswith(self.start) and text.endswith(self.end)
+        return is_whole and self.within in text
+
+
+MPS_SHAPE = TextShape("MPS", b"NAME", b"ENDATA\n")
+SOL_SHAPE = TextShape(".sol", b"", b"\n", b"\nOptions\n")
+NL_SHAPE = TextShape(".nl", b"g", b"\n")
+TEXT_SHAPES: Mapping[Command, TextShape] = {
+    Command.EXPORT: MPS_SHAPE,
+    Command.MPS: MPS_SHAPE,
+    Command.FIXED: MPS_SHAPE,
+    Command.IMPORT: NL_SHAPE,
+    Command.RETURN: SOL_SHAPE,
+}  # of the commands that write a text which the drivers read
+
+
 class Reply(NamedTuple):
     """How one call of the proved program ended.
 

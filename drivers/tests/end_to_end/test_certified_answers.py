@@ -152,6 +152,18 @@ def test_the_command_takes_what_others_take(workspace: Workspace, way: str) -> N
     assert ended.out.encode() == wanted
 
 
+@pytest.mark.needs("cbc")
+def test_a_large_answer(workspace: Workspace) -> None:
+    """A .sol text of more bytes than a verdict may have."""
+    columns = [real(0, 123456789 + place) for place in range(30000)]
+    rows = [row(None, 123456789, 1, *[0] * 29999)]
+    workspace.write("m.nl", nl_text(columns, rows, [least(*[-1] * 30000)]))
+    workspace.run("bridge-cbc", "m", "-AMPL", "strict=1", "certificate=kept")
+    sol = workspace.read("m.sol")
+    assert len(sol) > 300000
+    assert sol == certified_text(workspace, "m.nl", "kept")
+
+
 # How MiniZinc calls a driver, with what it reads and what comes back kept beside the test.
 KEEPING = """
 {driver} "$@" strict=1 certificate={folder}/kept overwrite=1

@@ -4,6 +4,7 @@ from __future__ import annotations
 
 import re
 import shlex
+from typing import Sequence
 
 import pytest
 
@@ -43,6 +44,32 @@ def test_a_run_ends_with_an_error(workspace: Workspace, answer: str) -> None:
     sol = workspace.sol("knap.sol")
     assert (sol.code, sol.values) == (501, [])
     assert "is no verdict" in sol.last_line
+
+
+OTHER_TEXTS = ["exit 0", "echo hello; exit 0", "echo NAME nl; exit 0", "echo ENDATA; exit 0"]
+
+
+@pytest.mark.needs("program", "cbc")
+@pytest.mark.parametrize("command", ["export", "return"])
+@pytest.mark.parametrize("text", OTHER_TEXTS)
+def test_another_text_is_the_programs_fault(workspace: Workspace, command: str, text: str) -> None:
+    """Where a text is asked for and another one comes with status 0, no solver is blamed."""
+    workspace.copy_files(EXAMPLES)
+    false = f'case $1 in {command}) {text};; esac\nexec {shlex.join(program())} "$@"'
+    environment = {"BRIDGE": shlex.quote(str(workspace.script("false", false)))}
+    ended = workspace.run("bridge-cbc", "knap", "-AMPL", environment=environment)
+    assert f"is not the proved one: `bridge {command}` wrote no " in ended.text
+    assert "CBC" not in ended.text and "fault of the driver" not in ended.text
+
+
+@pytest.mark.needs("cbc")
+@pytest.mark.parametrize("words", [("bridge-cbc", "knap"), ("nl-bridge", "explain", "knap.nl")])
+def test_a_program_that_says_nothing(workspace: Workspace, words: Sequence[str]) -> None:
+    """As with BRIDGE=/bin/true."""
+    workspace.copy_files(EXAMPLES)
+    ended = workspace.run(*words, environment={"BRIDGE": "/bin/true"})
+    assert ended.status != 0
+    assert "is not the proved one" in ended.text and "CBC" not in ended.text
 
 
 @pytest.mark.needs("program")

@@ -321,8 +321,10 @@ def _exported(text: bytes, folder: Path) -> bytes:
 
 
 def _said(command: str, model: str, certificate: str) -> str:
-    """The line of the proved program on a certificate."""
-    words = [*program(), command, model, certificate]
+    """The line of the proved program on a certificate, which may be packed."""
+    plain = f"{certificate}.plain"
+    Path(plain).write_bytes(start_of_file(certificate))
+    words = [*program(), command, model, plain]
     done = subprocess.run(words, capture_output=True)
     return done.stdout.decode("latin-1").rstrip("\n")
 
