@@ -11,7 +11,6 @@ from fractions import Fraction
 from typing import TYPE_CHECKING, NamedTuple, Optional, Sequence
 
 from ..exact.evidence import NOT_PROVED, Evidence
-from ..formats.numbers import decimal_or_fraction
 from ..formats.sol import read_sol
 from ..model.analysis import TOLERANCE_OF_INTEGERS, worst_residual
 from ..model.linear_program import EPIGRAPH_COLUMN, EPIGRAPH_ROW
@@ -23,6 +22,7 @@ from ..system.deadline import Deadline
 from ..system.errors import DeadlineExceeded
 from ..system.late import late_module
 from .answer import Answer, is_point
+from .check_words import feasible_words, has_rounded_value, shown_words, tells_value
 from .monitor import Monitor
 from .search_facts import SearchFacts, WrittenNumbers
 from .settings import Settings
@@ -300,7 +300,7 @@ class AnswerCertifier:
         said = statement_of(verdict.line)
         rounded = answer.rounded_parts()
         if said is not None and said.claim is Claim.OPTIMAL and rounded:
-            if told.split()[-1:] != [decimal_or_fraction(str(said.value))]:
+            if not tells_value(told, said.value):
                 told += f"; the exact {rounded} are rounded to decimals in it"
         is_sol = self.settings.makes_sol and not self.is_mps
         return f"bridge check of the {'.sol' if is_sol else 'values'}: {told}"
@@ -327,13 +327,13 @@ class AnswerCertifier:
     def claim_words(self, said: Statement | None, note: str = "") -> list[str]:
         """A line with the claim in words, where that says more than the verdict.
 
-        There is none of a final claim.
+        There is none of a final claim, but of an optimum that no short decimal is.
 
         Args:
             said: What is proved; None where nothing is.
             note: Why no more is proved; "" where that is not known.
         """
-        if said is None or said.claim.is_final:
+        if said is None or said.claim.is_final and not has_rounded_value(said):
             return []
         lattice = None if self.is_relaxed else objective_lattice(self.program)
         text = sentence(said, maximise=self.program.maximise, lattice=lattice)
@@ -352,7 +352,7 @@ class AnswerCertifier:
         """
         words = line.split()
         if words[0] in ("yes", "gap"):
-            return " ".join([words[0], *map(decimal_or_fraction, words[1:])])
+            return shown_words(*map(Fraction, words[1:]))
         if words[0] not in ("row", "bound"):
             return f"exact values do not fit 128 bits ({line})"
         part = self.named_part(words[0], int(words[1]))
@@ -380,8 +380,3 @@ class AnswerCertifier:
             return "the objective's row"
         kind, digits = "row" if exported.startswith("c") else "column", exported[1:]
         return self.named_part(kind, int(digits)) if digits.isdigit() else exported
-
-
-def feasible_words(value: Fraction) -> str:
-    """Words that values are a feasible point, with its objective in the objective's own sense."""
-    return f"feasible, objective exactly {decimal_or_fraction(str(value))}"

@@ -11,7 +11,8 @@ import pytest
 from bridge_drivers.model.linear_program import LinearProgram
 from bridge_drivers.pipeline.answered_run import proved_gap_words, shows_its_claim
 from bridge_drivers.pipeline.answer import is_point
-from bridge_drivers.pipeline.certification import AnswerCertifier, feasible_words
+from bridge_drivers.pipeline.certification import AnswerCertifier
+from bridge_drivers.pipeline.check_words import feasible_words
 from bridge_drivers.pipeline.monitor import Monitor
 from bridge_drivers.pipeline.settings import CertificateSettings, Settings
 from bridge_drivers.program.bridge import Bridge
