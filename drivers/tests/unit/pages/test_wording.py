@@ -72,7 +72,7 @@ NEEDED = "numbers with fewer digits are wanted"
                 "folder/m.certificate holds of folder/m.nl: unbounded",
                 "claim     the objective goes above every number",
                 "point     all 0",
-                "ray       x0 1, x1 1; the others 0",
+                "ray       x0 1, x1 1",
             ],
         ),
         (

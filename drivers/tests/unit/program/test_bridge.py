@@ -22,7 +22,13 @@ from bridge_drivers.program.calls import Command, Reply, files_of_call, is_utf8
 from bridge_drivers.program.refusal import Refusal
 from bridge_drivers.program.verdict import NoVerdict
 from bridge_drivers.system.deadline import Deadline
-from bridge_drivers.system.errors import DeadlineExceeded, NotFound, NotInstalled, NotStarted
+from bridge_drivers.system.errors import (
+    DeadlineExceeded,
+    NotFound,
+    NotInstalled,
+    NotStarted,
+    ProgramFailed,
+)
 
 Script = Callable[[str, str], str]
 
@@ -122,11 +128,30 @@ def test_a_call(script: Script) -> None:
 
 
 def test_each_command(script: Script) -> None:
-    bridge = Bridge([script("one", 'echo "$@"')])
-    assert bridge.export("m.nl") == b"export m.nl\n"
-    assert bridge.export("m.nl", 2) == b"export m.nl 2\n"
-    assert bridge.return_("m.nl", "a.txt") == b"return m.nl a.txt\n"
-    assert bridge.text(Command.IMPORT, "m.mps") == b"import m.mps\n"
+    lines = ["case $1 in", 'return) echo "$@"; echo Options;;', 'import) echo "g $@";;']
+    lines += ['*) echo "NAME $@"; echo ENDATA;;', "esac"]
+    bridge = Bridge([script("one", "\n".join(lines))])
+    assert bridge.export("m.nl") == b"NAME export m.nl\nENDATA\n"
+    assert bridge.export("m.nl", 2) == b"NAME export m.nl 2\nENDATA\n"
+    assert bridge.return_("m.nl", "a.txt") == b"return m.nl a.txt\nOptions\n"
+    assert bridge.text(Command.IMPORT, "m.mps") == b"g import m.mps\n"
+
+
+@pytest.mark.parametrize(
+    ("command", "name"),
+    [
+        (Command.EXPORT, "MPS"),
+        (Command.FIXED, "MPS"),
+        (Command.IMPORT, ".nl"),
+        (Command.RETURN, ".sol"),
+    ],
+)
+@pytest.mark.parametrize("text", ["", "optimal 17", "NAME nl", "ENDATA"])
+def test_another_text(script: Script, command: Command, name: str, text: str) -> None:
+    """What is no text of the command's kind is no text, whatever the status is."""
+    bridge = Bridge([script("one", f"echo {text}")])
+    with pytest.raises(ProgramFailed, match=f"`bridge {command.value}` wrote no {name} text"):
+        bridge.text(command, "m")
 
 
 @pytest.mark.parametrize(
