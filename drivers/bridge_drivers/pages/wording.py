@@ -11,33 +11,29 @@ from typing import List, Mapping, NamedTuple, Optional, Sequence, Tuple
 
 from ..exact.certificate import Certificate, Node, NodeKind
 from ..formats.names import NameLists
-from ..formats.numbers import exact_decimal, nearest_double
+from ..formats.told_numbers import IN_BOXES, told_number
 from ..program.verdict import Claim, Statement, sentence
 from ..system.text import counted, first_of
 from ..exact.leaf_sums import LeafSums, Part
 
 MOST_TERMS = 6  # of a form that is told
 MOST_LISTED = 12  # values of a point, rows
-MOST_DIGITS = 12  # letters of a decimal that is told in full
-ABOUT, BEYOND_DOUBLES = "\u2248 ", "beyond doubles"
+ABOUT = "\u2248 "  # before a decimal that is rounded
 HEAD_WIDTH = 10  # columns of the word that a line begins with
 ROOT_ROW = -1  # a place above all nodes, where only constraints are rows
 
 
 def short_number(value: Fraction) -> str:
     """A number in few decimals, behind a sign where these are not all."""
-    text = exact_decimal(value)
-    if text is not None and len(text) <= MOST_DIGITS:
-        return text
-    double = nearest_double(value)
-    return BEYOND_DOUBLES if double is None else f"{ABOUT}{double:.6g}"
+    told = told_number(value, IN_BOXES)
+    return told.text if told.is_exact else ABOUT + told.text
 
 
 def exact_and_decimal(value: Fraction) -> str:
     """A number exactly, and beside a fraction its decimal."""
-    text = short_number(value)
-    if value.denominator == 1 or text == BEYOND_DOUBLES:
+    if value.denominator == 1:
         return str(value)
+    text = short_number(value)
     return f"{value} {text}" if text.startswith(ABOUT) else f"{value} = {text}"
 
 
@@ -195,8 +191,12 @@ class Wording:
         """A point or a ray, in its values that are not 0."""
         if not point:
             return "all 0"
-        texts = [f"{self.column(column)} {value}" for column, value in point.items()]
-        return first_of(texts, MOST_LISTED) + "; the others 0"
+        texts = [
+            f"{self.column(column)} {exact_and_decimal(value)}" for column, value in point.items()
+        ]
+        listed = first_of(texts, MOST_LISTED)
+        has_all = self.sums is not None and len(point) == self.sums.program.n
+        return listed if has_all else listed + "; the others 0"
 
     def lines(self) -> List[str]:
         """What the certificate is made of, and which rows its leaves use, and how often."""

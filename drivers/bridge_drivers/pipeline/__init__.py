@@ -7,7 +7,7 @@ Its functions are functions of values: they print nothing and parse no words.
   answer and what is proved of it), `monitor` (what a run tells while it goes on);
 - the answer: `answer` (in decimals), `answer_places` and `row_factors` (as the search takes it),
   `certification`, `judge` and `stored_certificate` (what is proved, and kept);
-- what is told: `outcome` (the code), `resolution` (what is passed on), `outputs` (files), `report`
+- what is told: `check_words` (of a point and duals), `outcome` (the code), `resolution` (what is passed on), `outputs` (files), `report`
   (of a call), `statistics` (of a model).
 
 The calls of the package (`api`), `pulp_solver` and the commands use it.

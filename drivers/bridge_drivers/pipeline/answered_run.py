@@ -473,8 +473,8 @@ def shows_its_claim(told: str, claim: str) -> bool:
     By the words of `bridge check` its own show what is proved, or its values break the model.
 
     Args:
-        told: These words: `yes V` where the duals show the optimum, `gap V W` where they show a
-            bound.
+        told: These words, which begin with `yes` where the duals show the optimum, and with `gap`
+            where they show a bound.
         claim: The first word of what is proved; only of `optimal` the duals must show an optimum.
     """
     shows = ("yes",) if claim == "optimal" else ("yes", "gap")

@@ -29,9 +29,10 @@ from ..program.verdict import Claim, Statement, objective_lattice, sentence, sta
 from ..formats.sol import read_sol
 from ..solvers.base import SolverStatus
 from ..solvers.run import SolverRun
-from ..formats.numbers import decimal, decimal_or_fraction
+from ..formats.numbers import decimal
 from .answer import Answer
 from .answer_places import answer_by_place, is_point
+from .check_words import feasible_words, has_rounded_value, shown_words, tells_value
 from .contradiction import contradiction_words
 from .exact_optimum import ExactOptimum
 from .judge import CertificateJudge
@@ -514,7 +515,7 @@ class AnswerCertifier:
         said = statement_of(verdict.line)
         rounded = answer.rounded_parts()
         if said is not None and said.claim is Claim.OPTIMAL and rounded:
-            if told.split()[-1:] != [decimal_or_fraction(str(said.value))]:
+            if not tells_value(told, said.value):
                 told += f"; the exact {rounded} are rounded to decimals in it"
         is_sol = self.settings.makes_sol and not self.is_mps
         return f"bridge check of the {'.sol' if is_sol else 'values'}: {told}"
@@ -541,13 +542,13 @@ class AnswerCertifier:
     def claim_words(self, said: Statement | None, note: str = "") -> list[str]:
         """A line with the claim in words, where that says more than the verdict.
 
-        There is none of a final claim.
+        There is none of a final claim, but of an optimum that no short decimal is.
 
         Args:
             said: What is proved; None where nothing is.
             note: Why no more is proved; "" where that is not known.
         """
-        if said is None or said.claim.is_final:
+        if said is None or said.claim.is_final and not has_rounded_value(said):
             return []
         lattice = None if self.is_relaxed else objective_lattice(self.program)
         text = sentence(said, maximise=self.program.maximise, lattice=lattice)
@@ -566,7 +567,7 @@ class AnswerCertifier:
         """
         words = line.split()
         if words[0] in ("yes", "gap"):
-            return " ".join([words[0], *map(decimal_or_fraction, words[1:])])
+            return shown_words(*map(Fraction, words[1:]))
         if words[0] not in ("row", "bound"):
             return f"exact values do not fit 128 bits ({line})"
         part = self.named_part(words[0], int(words[1]))
@@ -594,8 +595,3 @@ class AnswerCertifier:
             return "the objective's row"
         kind, digits = "row" if exported.startswith("c") else "column", exported[1:]
         return self.named_part(kind, int(digits)) if digits.isdigit() else exported
-
-
-def feasible_words(value: Fraction) -> str:
-    """Words that values are a feasible point, with its objective in the objective's own sense."""
-    return f"feasible, objective exactly {decimal_or_fraction(str(value))}"

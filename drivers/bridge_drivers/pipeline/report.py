@@ -14,6 +14,7 @@ from typing import Any, Dict, Iterator, Mapping, Sequence, Tuple
 
 from ..formats.numbers import nearest_double
 from ..formats.source import Source
+from ..formats.told_numbers import IN_REPORTS, told_number
 from ..program.bridge import sha256_of_file
 from ..program.verdict import Statement
 from ..system.errors import BridgeError
@@ -134,8 +135,19 @@ class Report:
 
 
 def number_object(value: Fraction | None) -> JsonObject | None:
-    """A number exactly as a text, and as the nearest double; None where there is none."""
-    return None if value is None else {"exact": str(value), "double": nearest_double(value)}
+    """A number exactly as a text, as the nearest double, and as a decimal; None where there is none.
+
+    `error` is by how much the number is off its decimal at most: "0" where the decimal is exact.
+    """
+    if value is None:
+        return None
+    told = told_number(value, IN_REPORTS)
+    return {
+        "exact": str(value),
+        "double": nearest_double(value),
+        "decimal": told.text,
+        "error": told_number(told.error, IN_REPORTS).text,
+    }
 
 
 class ReportedCall:

@@ -17,14 +17,14 @@ from fractions import Fraction
 from math import gcd
 from typing import NamedTuple, Optional
 
-from ..formats.numbers import decimals_over_common_denominator, exact_decimal
+from ..formats.numbers import decimal_or_fraction, decimals_over_common_denominator
+from ..formats.told_numbers import told_number
 from ..model.linear_program import LinearProgram
 from ..system.errors import ProgramFailed
 from .calls import Reply
 
 LONGEST_LINE = 400  # bytes; a verdict has two numbers of at most 128 bits over 128 bits each
 SHOWN_BYTES = 60  # of a text that is no verdict
-MOST_PLACES = 15  # digits of a decimal that is told in full
 NUMBER = r"-?\d{1,40}(?:/\d{1,40})?"  # as the program writes one: 128 bits, over as many
 PLACE = r"\d{1,10}"  # of a row, a column, a leaf or an objective, from 0
 PROVED = re.compile(
@@ -288,14 +288,14 @@ def objective_lattice(program: LinearProgram) -> Optional[ObjectiveLattice]:
 
 def decimal(value: Fraction) -> str:
     """A number in decimals: in full where these are few, else `about` it."""
-    text = exact_decimal(value)
-    if text is not None and len(text.strip("-0.").replace(".", "")) <= MOST_PLACES:
-        return text
-    try:
-        return f"about {float(value):.10g}"
-    except OverflowError:
-        size = math.log10(abs(value.numerator)) - math.log10(value.denominator)
-        return f"about {'-' if value < 0 else ''}1e{math.floor(size)}"
+    told = told_number(value)
+    return told.text if told.is_exact else f"about {told.text}"
+
+
+def with_decimal(value: Fraction) -> str:
+    """A number exactly: as a decimal where it has one, else the fraction and about what it is."""
+    exact = decimal_or_fraction(str(value))
+    return f"{exact} ({decimal(value)})" if "/" in exact else exact
 
 
 def percentage(share: float | Fraction) -> str:

@@ -46,7 +46,9 @@ WRONG_ANSWERS = [
         answer={"c0 0.3": "c0 0.2"},
         stored="diet",
         sol=SolContent(
-            code=100, last_line="within 0 22/5", lines=["bridge check of the .sol: gap 4.4 4"]
+            code=100,
+            last_line="within 0 22/5",
+            lines=["bridge check of the .sol: gap: feasible, objective 4.4; the duals show 4"],
         ),
     ),
     Call(
@@ -195,13 +197,17 @@ LINES_OF_CHECK = [
         "bridge-cbc m -AMPL",
         bridge_says={"check": Reply(0, "yes 19/2")},
         stored="product",
-        sol=SolContent(lines=["bridge check of the .sol: yes 9.5"]),
+        sol=SolContent(
+            lines=["bridge check of the .sol: yes: values and duals show the optimum 9.5"]
+        ),
     ),
     Call(
         "bridge-cbc m -AMPL",
         bridge_says={"check": Reply(1, "gap 9 17/2")},
         stored="product",
-        sol=SolContent(lines=["bridge check of the .sol: gap 9 8.5"]),
+        sol=SolContent(
+            lines=["bridge check of the .sol: gap: feasible, objective 9; the duals show 8.5"]
+        ),
     ),
     Call(
         "bridge-cbc m -AMPL",

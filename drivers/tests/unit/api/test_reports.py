@@ -16,8 +16,21 @@ SCHEMA = json.loads((Path(__file__).parents[3] / "report.schema.json").read_text
 
 
 def test_numbers() -> None:
-    assert number_object(Fraction(173, 4)) == {"exact": "173/4", "double": 43.25}
-    assert number_object(Fraction(10) ** 400) == {"exact": "1" + "0" * 400, "double": None}
+    assert number_object(Fraction(173, 4)) == {
+        "exact": "173/4",
+        "double": 43.25,
+        "decimal": "43.25",
+        "error": "0",
+    }
+    assert number_object(Fraction(10) ** 400) == {
+        "exact": "1" + "0" * 400,
+        "double": None,
+        "decimal": "1e400",
+        "error": "0",
+    }
+    third = number_object(Fraction(1, 3))
+    assert third is not None
+    assert (third["decimal"], third["error"]) == ("0.33333333333333333", "0.000000000000000005")
     assert number_object(None) is None
 
 

@@ -72,7 +72,7 @@ NEEDED = "numbers with fewer digits are wanted"
                 "folder/m.certificate holds of folder/m.nl: unbounded",
                 "claim     the objective goes above every number",
                 "point     all 0",
-                "ray       x0 1, x1 1; the others 0",
+                "ray       x0 1, x1 1",
             ],
         ),
         (
@@ -324,7 +324,7 @@ def test_a_long_point() -> None:
         (F(173, 4), "43.25", "173/4 = 43.25"),
         (F(1, 3), "\u2248 0.333333", "1/3 \u2248 0.333333"),
         (F(10**13 + 1), "\u2248 1e+13", str(10**13 + 1)),
-        (F(10**400, 3), "beyond doubles", str(F(10**400, 3))),
+        (F(10**400, 3), "\u2248 3.33333e+399", f"{F(10**400, 3)} \u2248 3.33333e+399"),
     ],
 )
 def test_numbers(value: F, short: str, both: str) -> None:

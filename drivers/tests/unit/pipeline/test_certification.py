@@ -32,8 +32,8 @@ def certifier(folder: Path, program: str, *, prove: bool = False) -> AnswerCerti
 @pytest.mark.parametrize(
     "line, words",
     [
-        ("yes 19/2", "yes 9.5"),
-        ("gap 9 17/2", "gap 9 8.5"),
+        ("yes 19/2", "yes: values and duals show the optimum 9.5"),
+        ("gap 9 17/2", "gap: feasible, objective 9; the duals show 8.5"),
         ("row 1 has no side", "the dual of constraint 1 has the wrong sign"),
         ("bound 1 has no side", "the reduced cost of variable 1 has no bound to rest on"),
         ("row 1 broken", "constraint 1 is broken"),
@@ -62,7 +62,8 @@ def test_places(exported: str, told: str, tmp_path: Path) -> None:
 
 def test_a_feasible_point() -> None:
     assert feasible_words(Fraction(17)) == "feasible, objective exactly 17"
-    assert feasible_words(Fraction(1, 3)) == "feasible, objective exactly 1/3"
+    words = feasible_words(Fraction(1, 3))
+    assert words == "feasible, objective exactly 1/3 (about 0.3333333333)"
 
 
 @pytest.mark.parametrize(
@@ -86,6 +87,8 @@ def test_decimals_that_are_a_point(
     [
         ("optimal 17", []),
         ("infeasible", []),
+        ("optimal 22/5", []),
+        ("optimal 2/3", ["a point has the objective about 0.6666666667, and none is better"]),
         ("feasible 17", ["the search for a better one did not end: prove=1 goes on"]),
         ("bound 19", ["no point has more than 19"]),
     ],
@@ -117,9 +120,9 @@ def test_a_gap_in_words(line: str, words: str) -> None:
 @pytest.mark.parametrize(
     "told, claim, shows",
     [
-        ("yes 9.5", "optimal", True),
-        ("gap 9 8.5", "optimal", False),
-        ("gap 9 8.5", "within", True),
+        ("yes: values and duals show the optimum 9.5", "optimal", True),
+        ("gap: feasible, objective 9; the duals show 8.5", "optimal", False),
+        ("gap: feasible, objective 9; the duals show 8.5", "within", True),
         ("the dual of constraint 1 has the wrong sign", "optimal", False),
         ("constraint 1 is broken", "optimal", True),  # other duals do not mend values
     ],
