@@ -15,7 +15,7 @@ from typing import Callable, Dict, Iterable, Iterator, List, Mapping, Optional
 from ..model.integer_form import Box, IntegerProgram, Point
 from .certificate import RowNumbering, claim_lines, leaf_lines
 from .dual_bound import Multipliers, bit_width, dual_bound, fits_certificate
-from .evidence import NOT_PROVED, Evidence, Judge, not_proved
+from .evidence import Evidence, Judge, not_proved
 from .search_deadline import SearchDeadline
 from .short_duals import rounded_bound
 from .strategies import TreeText

@@ -108,7 +108,7 @@ CASES = [
         [
             "claim     the objective goes above every number",
             "point     all 0",
-            "ray       x0 1, x1 1; the others 0",
+            "ray       x0 1, x1 1",
         ],
     ),
     ExplainedCase(

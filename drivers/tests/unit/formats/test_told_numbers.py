@@ -18,14 +18,25 @@ from bridge_drivers.program.verdict import decimal, with_decimal
 from hypothesis import given
 from hypothesis import strategies as st
 
+
+def scaled(top: int, power: int, under: int = 1) -> Fraction:
+    """`top` over `under`, times a power of ten."""
+    return Fraction(top, under) * Fraction(10**power)
+
+
+def shrunk(top: int, power: int, under: int = 1) -> Fraction:
+    """`top` over `under`, over a power of ten."""
+    return Fraction(top, under) / Fraction(10**power)
+
+
 ROOMS = st.sampled_from([IN_MESSAGES, IN_BOXES, IN_REPORTS])
 WIDE = st.integers(-(2**127), 2**127)
 # of a verdict (128 bits over 128 bits), decimals, and numbers beyond doubles
 NUMBERS = st.one_of(
     st.builds(Fraction, WIDE, st.integers(1, 2**127)),
-    st.builds(lambda top, power: Fraction(top) / 10**power, WIDE, st.integers(0, 60)),
-    st.builds(lambda top, power: Fraction(top) * 10**power, WIDE, st.integers(0, 500)),
-    st.builds(lambda top, power: Fraction(top, 3 * 10**power), WIDE, st.integers(300, 500)),
+    st.builds(shrunk, WIDE, st.integers(0, 60)),
+    st.builds(scaled, WIDE, st.integers(0, 500)),
+    st.builds(shrunk, WIDE, st.integers(300, 500), st.just(3)),
 )
 
 
@@ -42,7 +53,9 @@ def test_a_decimal_is_the_number_or_tells_how_far_off_it_may_be(
 
 @given(NUMBERS)
 def test_what_is_rounded_is_marked_wherever_it_is_told(value: Fraction) -> None:
-    message, box, report = decimal(value), short_number(value), number_object(value)
+    message = decimal(value)
+    box = short_number(value)
+    report = number_object(value)
     assert Fraction(message.removeprefix("about ")) == value or message.startswith("about ")
     assert Fraction(box.removeprefix("\u2248 ")) == value or box.startswith("\u2248 ")
     assert report is not None and Fraction(report["exact"]) == value

@@ -89,6 +89,8 @@ def test_decimals_that_are_a_point(
     [
         ("optimal 17", []),
         ("infeasible", []),
+        ("optimal 22/5", []),
+        ("optimal 2/3", ["a point has the objective about 0.6666666667, and none is better"]),
         ("feasible 17", ["the search for a better one did not end: prove=1 goes on"]),
         ("bound 19", ["no point has more than 19"]),
     ],
